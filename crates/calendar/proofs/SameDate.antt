@@ -1,0 +1,24 @@
+-- The test whether two dates are the same passes exactly where they are equal.
+use Prim.Native.Nat.{ℕ}
+use mathlib.Core.Path.{_≡_, refl, sym, _∙_}
+use mathlib.Core.Bool.{true, false, false≢true, and-eq-true-iff}
+use lib.Dec.{eqb}
+use borrow.Author.Tests.{eqb-true, eq-eqb}
+use Rattle.calendar.specs.declared.CalendarDate.{CalendarDate}
+use Rattle.calendar.specs.Calendar.{dateFrom, sameDate}
+
+pub same-equal : (a b : CalendarDate) → sameDate a b ≡ true → a ≡ b
+same-equal a b same =
+    let parts = and-eq-true-iff (eqb (a .year) (b .year)) _ .0 same in
+    let rest = and-eq-true-iff (eqb (a .month) (b .month)) _ .0 (parts .1) in
+    let year : a .year ≡ b .year = eqb-true _ _ (parts .0) in
+    let month : a .month ≡ b .month = eqb-true _ _ (rest .0) in
+    let day : a .day ≡ b .day = eqb-true _ _ (rest .1) in
+    let equal : dateFrom (a .year) (a .month) (a .day) ≡ dateFrom (b .year) (b .month) (b .day) = cc in
+    equal
+
+pub differ-unequal : (a b : CalendarDate) → sameDate a b ≡ false → a ≡ b → ⊥
+differ-unequal a b differ equal = false≢true (sym differ ∙ rw (equal, eqb-self (b .year), eqb-self (b .month), eqb-self (b .day)))
+  where
+    eqb-self : (n : ℕ) → eqb n n ≡ true
+    eqb-self n = eq-eqb n n refl

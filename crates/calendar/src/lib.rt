@@ -1,0 +1,103 @@
+// The calendar of the scheme: day numbers and dates, each from the other, and the scheme month of a day.
+mod dates;
+
+ghost use mathlib.Core.Path.{_≡_};
+ghost use Prim.Native.Nat.{_<_};
+ghost use Rattle.calendar.specs.Calendar.{sameDate};
+ghost use Rattle.calendar.specs.Days.{dayCount, dateOf, schemeMonth};
+ghost use Rattle.calendar.specs.Answers.{answerOfDay, answerOfDate, dayAnswer, dateAnswer};
+
+// The day numbers are those below 852.
+const DAY_COUNT: u32 = 852;
+
+// The number that turns down a wrong day.
+const WRONG_DAY: u32 = 7;
+
+// April 2023, which is scheme month 0, in months counted from year 0.
+const FIRST_MONTH: u32 = 12 * 2023 + 4;
+
+// A date of the calendar.
+pub struct CalendarDate {
+    pub year: u32,
+    pub month: u32,
+    pub day: u32,
+}
+
+// What `day` answers: the day number, or the number that turns it down.
+pub enum DayAnswer {
+    Day(u32),
+    Refused(u32),
+}
+
+// What `date` answers: the date, or the number that turns it down.
+pub enum DateAnswer {
+    Date(CalendarDate),
+    Refused(u32),
+}
+
+// The date of a day number, unpacked from the table.
+fn date_of(day: u32) -> CalendarDate
+    requires { ⌜ day < dayCount ⌝ }
+    ensures { λ r. ⌜ r ≡ dateOf day ⌝ }
+{
+    let packed = dates::packed_date(day) as u32;
+    CalendarDate {
+        year: 2000 + packed / 512,
+        month: packed / 32 % 16,
+        day: packed % 32,
+    }
+}
+
+// Whether two dates are the same.
+fn same_date(a: CalendarDate, b: CalendarDate) -> bool
+    ensures { λ r. ⌜ r ≡ sameDate a b ⌝ }
+{
+    if a.year != b.year {
+        return false;
+    }
+    if a.month != b.month {
+        return false;
+    }
+    a.day == b.day
+}
+
+// The day number of a date, found in the table.
+pub fn day(year: u32, month: u32, day: u32) -> DayAnswer
+    ensures { λ r. ⌜ answerOfDay r ≡ dayAnswer year month day ⌝ }
+{
+    let wanted = CalendarDate { year, month, day };
+    let mut number: u32 = 0;
+    while number < DAY_COUNT {
+        if same_date(wanted, date_of(number)) {
+            return DayAnswer::Day(number);
+        }
+        number += 1;
+    }
+    DayAnswer::Refused(WRONG_DAY)
+}
+
+// The date of a day number.
+pub fn date(day: u32) -> DateAnswer
+    ensures { λ r. ⌜ answerOfDate r ≡ dateAnswer day ⌝ }
+{
+    if day < DAY_COUNT {
+        DateAnswer::Date(date_of(day))
+    } else {
+        DateAnswer::Refused(WRONG_DAY)
+    }
+}
+
+// The scheme month of a day: 0 for April 2023 to 11 for March 2024, and 0 for any day outside them.
+pub fn scheme_month(day: u32) -> u32
+    ensures { λ r. ⌜ r ≡ schemeMonth day ⌝ }
+{
+    if DAY_COUNT <= day {
+        return 0;
+    }
+    let date = date_of(day);
+    let months = 12 * date.year + date.month;
+    if months < FIRST_MONTH {
+        return 0;
+    }
+    months - FIRST_MONTH
+}

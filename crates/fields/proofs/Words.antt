@@ -1,0 +1,145 @@
+-- What `src/word.rt` computes: bits extracted and inserted by shifts and masks, and the steps of a load and of a store.
+use mathlib.Core.Path.{_≡_, sym, ap, ap₂, _∙_, subst}
+use mathlib.Core.Bool.{Bool}
+use mathlib.Core.List.{List, [], _∷_, _++_, append-nil}
+use Prim.Native.Nat.{ℕ, zero, suc, _+_, _-_, _*_, _/_, _%_, _^_, _≤_, _<_}
+use native.Mathlib.Nat.{zero-mul, add-zero, add-mul, mul-assoc, one-mul, mod-lt, mod-eq-of-lt, mul-one, not-suc-le-zero, le-of-suc-le-suc}
+use native.Mathlib.Numerals.{add-one}
+use native.Mathlib.Omega.{arith}
+use lib.ListN.{length, take, getD, set}
+use lib.Seq.{take-suc, take-at, drop-at, paste, paste-suc}
+use lib.Dec.{lit<}
+use lib.Pow.{pow-pos, pow-add, split, shr-lt, shl-exact, shr-mod, ones-lt, ones-split, high-ones}
+use lib.Bits.{bitAnd, bitOr, and-mask, and-block, and-high, or-block, or-shifted, or-zero-r}
+use Rattle.fields.specs.Field.{value, bitsOf, bits, bytes, AreBytes}
+use Rattle.fields.proofs.Bits.{value-append, value-bitsOf, length-bitsOf, bitsOf-add}
+use Rattle.fields.proofs.Laws.{length-bytes, bits-append}
+
+-- ---- shifts and masks: w bits with `below` bits below them
+
+-- `1 << w`
+one-shl : (w : ℕ) → w < 64 → (1 * 2 ^ w) % 2 ^ 64 ≡ 2 ^ w
+one-shl w h = shl-exact {a = 1} 1 w 64 (lit< tt) (omega arith) ∙ one-mul (2 ^ w)
+
+-- `(1 << w) - 1` does not wrap
+pub one-shl-pos : (w : ℕ) → w < 64 → 1 ≤ (1 * 2 ^ w) % 2 ^ 64
+one-shl-pos w h = subst (λ (k : ℕ). 1 ≤ k) (sym (one-shl w h)) (pow-pos w)
+
+-- `(x >> below) & ((1 << w) - 1)`
+pub extract-law : (x below w : ℕ) → w < 64 → bitAnd (x / 2 ^ below) ((1 * 2 ^ w) % 2 ^ 64 - 1) ≡ x / 2 ^ below % 2 ^ w
+extract-law x below w h = ap (λ (k : ℕ). bitAnd (x / 2 ^ below) (k - 1)) (one-shl w h) ∙ and-mask (x / 2 ^ below) w
+
+-- `!(mask << below)`, with `above` bits above the w
+clear-mask : (above w below : ℕ) → (2 ^ (above + w + below) - 1) - (2 ^ w - 1) * 2 ^ below ≡ (2 ^ above - 1) * 2 ^ w * 2 ^ below + (2 ^ below - 1)
+clear-mask above w below =
+    let e : 2 ^ (above + w + below) - 1 ≡ (2 ^ above - 1) * 2 ^ w * 2 ^ below + (2 ^ w - 1) * 2 ^ below + (2 ^ below - 1) =
+    ones-split (above + w) below ∙ ap (λ (k : ℕ). k * 2 ^ below + (2 ^ below - 1)) (ones-split above w)
+    ∙ ap (λ (k : ℕ). k + (2 ^ below - 1)) (add-mul ((2 ^ above - 1) * 2 ^ w) (2 ^ w - 1) (2 ^ below)) in
+    omega (arith, e)
+
+-- `x & !(mask << below)`
+cleared : (x above w below : ℕ) → x < 2 ^ (above + w + below)
+    → bitAnd x ((2 ^ above - 1) * 2 ^ w * 2 ^ below + (2 ^ below - 1)) ≡ x / 2 ^ below / 2 ^ w * 2 ^ w * 2 ^ below + x % 2 ^ below
+cleared x above w below h =
+    ap (λ (k : ℕ). bitAnd k ((2 ^ above - 1) * 2 ^ w * 2 ^ below + (2 ^ below - 1))) (sym (split x below))
+    ∙ and-block below (x / 2 ^ below) ((2 ^ above - 1) * 2 ^ w) (x % 2 ^ below) (2 ^ below - 1) (mod-lt x (pow-pos below)) (ones-lt below)
+    ∙ ap₂ (λ (a b : ℕ). a * 2 ^ below + b)
+    (ap (bitAnd (x / 2 ^ below)) (sym (high-ones above w)) ∙ and-high (x / 2 ^ below) above w
+    ∙ ap (λ (k : ℕ). k * 2 ^ w) (shr-mod above w (shr-lt (above + w) below h)))
+    (and-mask (x % 2 ^ below) below ∙ mod-eq-of-lt (mod-lt x (pow-pos below)))
+
+-- `y | (v << below)`, where y has zeros for the w bits
+filled : (high low w below v : ℕ) → low < 2 ^ below → v < 2 ^ w
+    → bitOr (high * 2 ^ w * 2 ^ below + low) (v * 2 ^ below) ≡ (high * 2 ^ w + v) * 2 ^ below + low
+filled high low w below v hl hv =
+    ap (bitOr (high * 2 ^ w * 2 ^ below + low)) (sym (add-zero (v * 2 ^ below)))
+    ∙ or-block below (high * 2 ^ w) v low 0 hl (pow-pos below)
+    ∙ ap₂ (λ (a b : ℕ). a * 2 ^ below + b) (or-shifted high w v hv) (or-zero-r low)
+
+-- `(x & !(mask << below)) | (v << below)`
+pub insert-law : (x below w v : ℕ) → x < 2 ^ 64 → w < 64 → below + w ≤ 64 → v < 2 ^ w
+    → bitOr (bitAnd x ((2 ^ 64 - 1) - ((1 * 2 ^ w) % 2 ^ 64 - 1) * 2 ^ below % 2 ^ 64)) (v * 2 ^ below % 2 ^ 64)
+    ≡ (x / 2 ^ below / 2 ^ w * 2 ^ w + v) * 2 ^ below + x % 2 ^ below
+insert-law x below w v hx hw hb hv =
+    let above : ℕ = 64 - (below + w) in
+    let e : above + w + below ≡ 64 = omega arith in
+    let mask : ((1 * 2 ^ w) % 2 ^ 64 - 1) * 2 ^ below % 2 ^ 64 ≡ (2 ^ w - 1) * 2 ^ below =
+    ap (λ (k : ℕ). (k - 1) * 2 ^ below % 2 ^ 64) (one-shl w hw) ∙ shl-exact w below 64 (ones-lt w) (omega arith) in
+    let clear : (2 ^ 64 - 1) - ((1 * 2 ^ w) % 2 ^ 64 - 1) * 2 ^ below % 2 ^ 64 ≡ (2 ^ above - 1) * 2 ^ w * 2 ^ below + (2 ^ below - 1) =
+    ap₂ (λ (k m : ℕ). (2 ^ k - 1) - m) (sym e) mask ∙ clear-mask above w below in
+    ap₂ bitOr (ap (bitAnd x) clear ∙ cleared x above w below (subst (λ (k : ℕ). x < 2 ^ k) (sym e) hx)) (shl-exact w below 64 hv (omega arith))
+    ∙ filled (x / 2 ^ below / 2 ^ w) (x % 2 ^ below) w below v (mod-lt x (pow-pos below)) hv
+
+-- ---- the load of the bytes l, n of them
+
+-- the number of one byte more
+value-next : (l : List ℕ) (j : ℕ) → AreBytes l → j < length l → value (bits (take (j + 1) l)) ≡ value (bits (take j l)) * 2 ^ 8 + getD l j 0
+unfolding bits
+value-next l j hb h =
+    let y : ℕ = getD l j 0 in
+    ap (λ (k : ℕ). value (bits (take k l))) (add-one j) ∙ ap (λ (r : List ℕ). value (bits r)) (take-suc l j 0 h)
+    ∙ ap value (bits-append (take j l) (y ∷ []) ∙ ap (λ (r : List Bool). bits (take j l) ++ r) (append-nil (bitsOf 8 y)))
+    ∙ value-append (bits (take j l)) (bitsOf 8 y)
+    ∙ ap₂ (λ (k v : ℕ). value (bits (take j l)) * 2 ^ k + v) (length-bitsOf 8 y) (value-bitsOf 8 y ∙ mod-eq-of-lt (hb j))
+
+-- `x | (y << k)`, where x has the bytes before y
+or-byte : (l : List ℕ) (j k x y : ℕ) → AreBytes l → j < length l → 8 + k ≤ 64 → x ≡ value (bits (take j l)) * 2 ^ (8 + k) → y ≡ getD l j 0
+    → bitOr x (y * 2 ^ k % 2 ^ 64) ≡ value (bits (take (j + 1) l)) * 2 ^ k
+or-byte l j k x y hb h hk ex ey =
+    let u : ℕ = value (bits (take j l)) in
+    let hy : y < 2 ^ 8 = subst (λ (m : ℕ). m < 2 ^ 8) (sym ey) (hb j) in
+    ap₂ bitOr (ex ∙ ap (λ (m : ℕ). u * m) (pow-add 2 8 k) ∙ sym (mul-assoc u (2 ^ 8) (2 ^ k)) ∙ sym (add-zero (u * 2 ^ 8 * 2 ^ k)))
+    (shl-exact 8 k 64 hy hk ∙ sym (add-zero (y * 2 ^ k)))
+    ∙ or-block k (u * 2 ^ 8) y 0 0 (pow-pos k) (pow-pos k)
+    ∙ ap₂ (λ (p q : ℕ). p * 2 ^ k + q) (or-shifted u 8 y hy ∙ ap (λ (m : ℕ). u * 2 ^ 8 + m) ey ∙ sym (value-next l j hb h)) (or-zero-r 0)
+    ∙ add-zero (value (bits (take (j + 1) l)) * 2 ^ k)
+
+-- x is the number of the first j bytes, shifted past the others: at first, after a turn, and at the end
+pub load-none : (l : List ℕ) (k : ℕ) → 0 ≡ value (bits (take 0 l)) * 2 ^ k
+unfolding value bits
+load-none l k = sym (zero-mul (2 ^ k))
+
+pub load-step : (l : List ℕ) (n j x y : ℕ) → AreBytes l → n ≤ length l → n ≤ 8 → j < n
+    → x ≡ value (bits (take j l)) * 2 ^ ((n - j) * 8) → y ≡ getD l j 0
+    → bitOr x (y * 2 ^ ((n - 1 - j) * 8) % 2 ^ 64) ≡ value (bits (take (j + 1) l)) * 2 ^ ((n - (j + 1)) * 8)
+load-step l n j x y hb hl hn hj ex ey =
+    let e : (n - j) * 8 ≡ 8 + (n - 1 - j) * 8 = omega arith in
+    let g : (n - 1 - j) * 8 ≡ (n - (j + 1)) * 8 = omega arith in
+    or-byte l j ((n - 1 - j) * 8) x y hb (omega arith) (omega arith) (ex ∙ ap (λ (k : ℕ). value (bits (take j l)) * 2 ^ k) e) ey
+    ∙ ap (λ (k : ℕ). value (bits (take (j + 1) l)) * 2 ^ k) g
+
+pub load-all : (l : List ℕ) (n j : ℕ) → j ≡ n → value (bits (take j l)) * 2 ^ ((n - j) * 8) ≡ value (bits (take n l))
+load-all l n j e =
+    let z : (n - j) * 8 ≡ 0 = omega arith in
+    ap₂ (λ (m k : ℕ). value (bits (take m l)) * 2 ^ k) e z ∙ mul-one (value (bits (take n l)))
+
+-- ---- the store of the n low bytes of x
+
+bytes-suc : (n x : ℕ) → bytes (suc n) (bitsOf (8 * suc n) x) ≡ (x / 2 ^ (8 * n) % 2 ^ 8) ∷ bytes n (bitsOf (8 * n) x)
+unfolding bytes
+bytes-suc n x =
+    let p : List Bool = bitsOf 8 (x / 2 ^ (8 * n)) in
+    let q : List Bool = bitsOf (8 * n) x in
+    let e : 8 * suc n ≡ 8 + 8 * n = omega arith in
+    ap (λ (k : ℕ). bytes (suc n) (bitsOf k x)) e ∙ ap (bytes (suc n)) (bitsOf-add 8 (8 * n) x)
+    ∙ ap₂ (λ (y : ℕ) (ys : List ℕ). y ∷ ys)
+    (ap value (take-at p q 8 (length-bitsOf 8 (x / 2 ^ (8 * n)))) ∙ value-bitsOf 8 (x / 2 ^ (8 * n)))
+    (ap (bytes n) (drop-at p q 8 (length-bitsOf 8 (x / 2 ^ (8 * n)))))
+
+byte-at : (n x j : ℕ) → j < n → getD (bytes n (bitsOf (8 * n) x)) j 0 ≡ x / 2 ^ ((n - 1 - j) * 8) % 2 ^ 8
+byte-at zero x j h = absurd (not-suc-le-zero h)
+byte-at (suc n) x zero h =
+    let e : 8 * n ≡ (suc n - 1 - 0) * 8 = omega arith in
+    ap (λ (l : List ℕ). getD l 0 0) (bytes-suc n x) ∙ ap (λ (k : ℕ). x / 2 ^ k % 2 ^ 8) e
+byte-at (suc n) x (suc j) h =
+    let e : (n - 1 - j) * 8 ≡ (suc n - 1 - suc j) * 8 = omega arith in
+    ap (λ (l : List ℕ). getD l (suc j) 0) (bytes-suc n x) ∙ byte-at n x j (le-of-suc-le-suc h) ∙ ap (λ (k : ℕ). x / 2 ^ k % 2 ^ 8) e
+
+-- a turn: the first j bytes are stored in s from byte `first` on, and y is the next
+pub store-step : (s₀ s : List ℕ) (first n x j y : ℕ) → first + n ≤ length s₀ → j < n → s ≡ paste s₀ first (bytes n (bitsOf (8 * n) x)) j
+    → y ≡ x / 2 ^ ((n - 1 - j) * 8) % 2 ^ 8 → set s (first + j) y ≡ paste s₀ first (bytes n (bitsOf (8 * n) x)) (j + 1)
+store-step s₀ s first n x j y h hj es ey =
+    let new : List ℕ = bytes n (bitsOf (8 * n) x) in
+    ap₂ (λ (r : List ℕ) (k : ℕ). set r (first + j) k) es (ey ∙ sym (byte-at n x j hj))
+    ∙ paste-suc s₀ first new j 0 (omega arith) (omega (arith, length-bytes n (bitsOf (8 * n) x)))
+    ∙ ap (paste s₀ first new) (sym (add-one j))

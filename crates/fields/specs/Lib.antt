@@ -1,0 +1,3 @@
+-- What a packed field holds: `Field` has one field, `Fields` adjacent ones.
+pub mod Field
+pub mod Fields

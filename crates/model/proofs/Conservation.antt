@@ -1,0 +1,52 @@
+-- Each accepted call changes due by the customer's amount that it answers, and the pence by what a claim answers. Assumes nothing.
+use mathlib.Core.Path.{_≡_, sym, ap, _∙_}
+use mathlib.Core.Bool.{Bool, cond}
+use mathlib.Core.List.{List}
+use Prim.Native.Nat.{_+_, _-_, _≤_}
+use native.Mathlib.Omega.{arith}
+use lib.IntN.{pos, _+ℤ_, +ℤ-idr}
+use Rattle.basics.specs.Lists.{total, count}
+use Rattle.basics.proofs.Lists.{total-split, total-const}
+use Rattle.basics.proofs.Integers.{change, reset}
+use Rattle.rates.specs.declared.Bill.{Bill}
+use Rattle.model.specs.declared.Row.{Row}
+use Rattle.model.specs.Contracts.{contractAt}
+use Rattle.model.specs.Calls.{Call, callOpen, callBill, callRebill, callCert, callCancel, callClaim, callReport, callTotal, named, requestedBill, customerAmount, claimPence}
+use Rattle.model.specs.Rules.{Rules, refusal}
+use Rattle.model.specs.Ledger.{Ledger, amountOf, remove, replace, priced, view as viewL, due as dueL, accept}
+use Rattle.model.specs.Sheet.{Sheet}
+use Rattle.model.proofs.RulesLaws.{RulesLaws}
+use Rattle.model.proofs.RowSums.{total-insert, total-remove, total-replace, amount-at}
+use Rattle.model.proofs.Relation.{Related, once-row}
+
+exchange : (p : Bill → Bool) (r : Row) (xs : List Row) → count (λ x. p (x .bill)) xs ≡ 1 → total (λ x. x .amount) xs + r .amount ≡ total (λ x. x .amount) (replace p r xs) + amountOf p xs
+exchange p r xs h = omega (arith, total-replace p (λ x. x .amount) r xs (omega arith), amount-at p xs (omega arith), total-split (λ x. p (x .bill)) (λ x. x .amount) xs, one)
+  where
+    one : total (λ x. cond (p (x .bill)) (r .amount) (x .amount)) xs ≡ r .amount + total (λ x. cond (p (x .bill)) 0 (x .amount)) xs
+    one = total-const (λ x. p (x .bill)) (r .amount) (λ x. x .amount) xs ∙ rw h (omega arith)
+
+withdraw : (p : Bill → Bool) (xs : List Row) → count (λ x. p (x .bill)) xs ≤ 1 → total (λ x. x .amount) xs + 0 ≡ total (λ x. x .amount) (remove p xs) + amountOf p xs
+withdraw p xs h = omega (arith, total-remove p (λ x. x .amount) xs h, amount-at p xs h, total-split (λ x. p (x .bill)) (λ x. x .amount) xs)
+
+module _ (R : Rules) (ok : RulesLaws R) where
+  pub law-due : (l : Ledger) (s : Sheet) (c : Call) → Related R l s → refusal R (viewL l) c ≡ 0 → pos (dueL (accept R l c .next)) ≡ pos (dueL l) +ℤ customerAmount (accept R l c .answers)
+  unfolding accept dueL viewL
+  law-due l s (callOpen c fuel kind fix entry) r e = sym (+ℤ-idr _)
+  law-due l s (callBill b) r e = ap pos (omega (arith, total-insert (λ x. x .amount) (priced R (contractAt (l .contracts) (b .contract)) (requestedBill (l .contracts) b)) (l .rows)))
+  law-due l s (callRebill b) r e = change _ _ _ _ (exchange (named (b .contract) (b .first)) _ (l .rows) (omega (arith, once-row R l s r (b .contract) (b .first), ok .rebill-found (viewL l) b e)))
+  law-due l s (callCert c class effective) r e = reset _ _
+  law-due l s (callCancel c first) r e = change _ _ _ _ (withdraw (named c first) (l .rows) (once-row R l s r c first))
+  law-due l s callClaim r e = sym (+ℤ-idr _)
+  law-due l s (callReport c) r e = sym (+ℤ-idr _)
+  law-due l s callTotal r e = sym (+ℤ-idr _)
+
+  pub law-pence : (l : Ledger) (c : Call) → pos (accept R l c .next .pence) ≡ pos (l .pence) +ℤ claimPence (accept R l c .answers)
+  unfolding accept
+  law-pence l (callOpen c fuel kind fix entry) = sym (+ℤ-idr _)
+  law-pence l (callBill b) = sym (+ℤ-idr _)
+  law-pence l (callRebill b) = sym (+ℤ-idr _)
+  law-pence l (callCert c class effective) = sym (+ℤ-idr _)
+  law-pence l (callCancel c first) = sym (+ℤ-idr _)
+  law-pence l callClaim = reset _ _
+  law-pence l (callReport c) = sym (+ℤ-idr _)
+  law-pence l callTotal = sym (+ℤ-idr _)

@@ -1,0 +1,245 @@
+-- Each accepted call keeps the relation between the ledger and the sheet. Assumes nothing.
+use mathlib.Core.Path.{_≡_, refl, sym, ap, _∙_, subst}
+use mathlib.Core.Logic.{_≢_}
+use mathlib.Core.Bool.{Bool, true, false, cond, true≢false}
+use mathlib.Core.List.{List, [], _∷_, map}
+use mathlib.Core.Option.{none}
+use Prim.Native.Nat.{ℕ, suc, _-_, _≤_}
+use native.Mathlib.Omega.{arith}
+use lib.Dec.{eqb}
+use Rattle.basics.specs.Lists.{All, total, count}
+use Rattle.basics.proofs.Tests.{either, and-left, and-right, and-yes, yes-le, eq-yes, yes-eq, eq-no, no-eq}
+use Rattle.basics.proofs.Lists.{all-map, total-all, total-cong, total-mono, total-split, total-map}
+use Rattle.rates.specs.declared.Contract.{Contract}
+use Rattle.rates.specs.declared.Bill.{Bill}
+use Rattle.model.specs.declared.Row.{Row}
+use Rattle.model.specs.Codes.{opening, certify}
+use Rattle.model.specs.Contracts.{Contracts, contractAt, isOpen, putContract, isThere}
+use Rattle.model.specs.Calls.{Call, callOpen, callBill, callRebill, callCert, callCancel, callClaim, callReport, callTotal, BillRequest, _if_, named, sharing, requestedBill}
+use Rattle.model.specs.Rules.{Rules, refusal}
+use Rattle.model.specs.WellFormed.{before}
+use Rattle.model.specs.Ledger.{Ledger, remove, replace, priced, rerated, accept as acceptL}
+use Rattle.model.specs.Sheet.{Sheet, strikeOut, inPlaceOf, view as viewS, accept as acceptS}
+use Rattle.model.proofs.RowSums.{total-strike, total-swap, total-insert, total-remove, total-replace}
+use Rattle.model.proofs.RulesLaws.{Taken, Certified, RulesLaws}
+use Rattle.model.proofs.Relation.{Related, BillOk, rowOf, once-row}
+
+pub named-contract : (c first : ℕ) (b : Bill) → named c first b ≡ true → b .contract ≡ c
+unfolding named
+named-contract c first b e = eq-yes (b .contract) c (and-left (eqb (b .contract) c) _ e)
+
+pub named-first : (c first : ℕ) (b : Bill) → named c first b ≡ true → b .first ≡ first
+unfolding named
+named-first c first b e = eq-yes (b .first) first (and-right (eqb (b .contract) c) _ e)
+
+-- a bill named so shares the first day
+named-shares : (c first last : ℕ) (b : Bill) → first ≤ last → b .first ≤ b .last → named c first b ≡ true → sharing c first last b ≡ true
+unfolding named sharing
+named-shares c first last b h i e =
+    let f : b .first ≡ first = eq-yes (b .first) first (and-right (eqb (b .contract) c) _ e) in
+    and-yes _ _ (and-left (eqb (b .contract) c) _ e) (and-yes _ _ (yes-le (b .first) last (omega arith)) (yes-le first (b .last) (omega arith)))
+
+one-le : (p q : Bool) → (p ≡ true → q ≡ true) → cond p 1 0 ≤ cond q 1 0
+one-le true q f = rw (f refl) (omega arith)
+one-le false q f = omega arith
+
+-- one bill more, where none of that name was isThere
+once-more : (b : Bill) (bs : List Bill) → count (named (b .contract) (b .first)) bs ≡ 0 → (c first : ℕ) → count (named c first) bs ≤ 1 → count (named c first) (b ∷ bs) ≤ 1
+once-more b bs z c first h = either (named c first b)
+    (λ e. let z′ : count (named c first) bs ≡ 0 = rw (named-contract c first b e, named-first c first b e) at z in rw e (omega arith))
+    (λ e. rw e (omega arith))
+
+all-strike : (P : Bill → Type 0) (p : Bill → Bool) (bs : List Bill) → All P bs → All P (strikeOut p bs)
+all-strike P p [] a = tt
+all-strike P p (b ∷ bs) a = go (p b) (all-strike P p bs (a .1))
+  where
+    go : (x : Bool) → All P (strikeOut p bs) → All P (cond x (strikeOut p bs) (b ∷ strikeOut p bs))
+    go true t = t
+    go false t = (a .0, t)
+
+all-swap : (P : Bill → Type 0) (p : Bill → Bool) (b : Bill) (bs : List Bill) → P b → All P bs → All P (map (inPlaceOf p b) bs)
+unfolding inPlaceOf
+all-swap P p b [] h a = tt
+all-swap P p b (x ∷ bs) h a = (go (p x), all-swap P p b bs h (a .1))
+  where
+    go : (y : Bool) → P (cond y b x)
+    go true = h
+    go false = a .0
+
+-- what is left is no more than what was isThere
+count-strike : (p q : Bill → Bool) (bs : List Bill) → count q (strikeOut p bs) ≤ count q bs
+count-strike p q bs = omega (arith, total-strike p (λ x. cond (q x) 1 0) bs, total-split p (λ x. cond (q x) 1 0) bs)
+
+-- a bill of the same name in place of each that has it: as many of each name as before
+named-same : (d f : ℕ) (x y : Bill) → x .contract ≡ y .contract → x .first ≡ y .first → named d f x ≡ named d f y
+unfolding named
+named-same d f x y p q = rw (p, q)
+
+named-swap : (c first : ℕ) (b : Bill) → b .contract ≡ c → b .first ≡ first → (d f : ℕ) (bs : List Bill) → count (named d f) (map (inPlaceOf (named c first) b) bs) ≡ count (named d f) bs
+unfolding inPlaceOf
+named-swap c first b p q d f bs = total-map (λ x. cond (named d f x) 1 0) (inPlaceOf (named c first) b) bs ∙ total-cong _ _ (λ x. ap (λ (y : Bool). cond y 1 0) (same x)) bs
+  where
+    same : (x : Bill) → named d f (inPlaceOf (named c first) b x) ≡ named d f x
+    same x = either (named c first x) (λ e. rw e (named-same d f b x (p ∙ sym (named-contract c first x e)) (q ∙ sym (named-first c first x e)))) (λ e. rw e)
+
+-- ---- another contract under a number
+
+pub at-same : (cs : Contracts) (c : ℕ) (k : Contract) → contractAt (putContract cs c k) c ≡ k
+unfolding contractAt putContract
+at-same cs c k = rw (yes-eq c c refl)
+
+pub at-other : (cs : Contracts) (c d : ℕ) (k : Contract) → d ≢ c → contractAt (putContract cs c k) d ≡ contractAt cs d
+unfolding contractAt putContract
+at-other cs c d k n = rw (no-eq d c n)
+
+pub open-same : (cs : Contracts) (c : ℕ) (k : Contract) → isOpen (putContract cs c k) c ≡ true
+unfolding isOpen putContract
+open-same cs c k = rw (yes-eq c c refl)
+
+pub open-other : (cs : Contracts) (c d : ℕ) (k : Contract) → d ≢ c → isOpen (putContract cs c k) d ≡ isOpen cs d
+unfolding isOpen putContract
+open-other cs c d k n = rw (no-eq d c n)
+
+pub contracts-put : (P : Contract → Type 0) (cs : Contracts) (c : ℕ) (k : Contract) → P k → ((d : ℕ) → isOpen cs d ≡ true → P (contractAt cs d)) → (d : ℕ) → isOpen (putContract cs c k) d ≡ true → P (contractAt (putContract cs c k) d)
+contracts-put P cs c k o f d e = either (eqb d c)
+    (λ i. rw (eq-yes d c i, at-same cs c k) o)
+    (λ i. rw (at-other cs c d k (eq-no d c i)) (f d (sym (open-other cs c d k (eq-no d c i)) ∙ e)))
+
+module _ (R : Rules) (ok : RulesLaws R) where
+  named-count : (cs : Contracts) (c first last : ℕ) (bs : List Bill) → first ≤ last → All (BillOk R cs) bs → count (named c first) bs ≤ count (sharing c first last) bs
+  named-count cs c first last bs h a = total-mono _ _ bs (all-map (BillOk R cs) _ (λ b q. one-le (named c first b) (sharing c first last b) (named-shares c first last b h (ok .days _ b (q .ranges) .0))) bs a)
+
+  keep-bill : (l : Ledger) (s : Sheet) (b : BillRequest) → Related R l s → refusal R (viewS s) (callBill b) ≡ 0 → Related R (acceptL R l (callBill b) .next) (acceptS s (callBill b))
+  unfolding acceptL acceptS viewS requestedBill rowOf
+  keep-bill l s b r e = record {
+    territory = r .territory;
+    contracts = r .contracts;
+    claims = r .claims;
+    same = λ w. rw (r .contracts) (omega (arith, total-insert w (priced R (contractAt (s .contracts) (b .contract)) (requestedBill (s .contracts) b)) (l .rows), r .same w));
+    good = r .good;
+    sane = (record { isOpened = t .isOpened; ranges = ranges }, r .sane);
+    once = λ c first. once-more (requestedBill (s .contracts) b) (s .bills) zero′ c first (r .once c first);
+  }
+    where
+      t : Taken R (viewS s) b
+      t = ok .bills (viewS s) b e
+
+      ranges : R .billOk (contractAt (s .contracts) (b .contract)) (requestedBill (s .contracts) b) ≡ true
+      ranges = t .ranges (r .good (b .contract) (t .isOpened))
+
+      zero′ : count (named (b .contract) (b .first)) (s .bills) ≡ 0
+      zero′ = omega (arith, ok .bill-free (viewS s) b e, named-count (s .contracts) (b .contract) (b .first) (b .last) (s .bills) (ok .days _ _ ranges .0) (r .sane))
+
+  -- ---- a bill taken away, or putContract in place of another: sums over rows are sums over bills, with a test
+
+  module _ (l : Ledger) (s : Sheet) (r : Related R l s) (c first : ℕ) where
+    gone : (w : Row → ℕ) → total w (remove (named c first) (l .rows)) ≡ total (λ b. w (rowOf R (s .contracts) b)) (strikeOut (named c first) (s .bills))
+    unfolding rowOf priced
+    gone w = total-remove (named c first) w (l .rows) (once-row R l s r c first)
+        ∙ r .same (λ x. cond (named c first (x .bill)) 0 (w x))
+        ∙ sym (total-strike (named c first) (λ b. w (rowOf R (s .contracts) b)) (s .bills))
+
+    exchanged : (b : Bill) (w : Row → ℕ) → total w (replace (named c first) (rowOf R (s .contracts) b) (l .rows)) ≡ total (λ b. w (rowOf R (s .contracts) b)) (map (inPlaceOf (named c first) b) (s .bills))
+    unfolding rowOf priced
+    exchanged b w = total-replace (named c first) w (rowOf R (s .contracts) b) (l .rows) (once-row R l s r c first)
+        ∙ r .same (λ x. cond (named c first (x .bill)) (w (rowOf R (s .contracts) b)) (w x))
+        ∙ sym (total-swap (named c first) b (λ b. w (rowOf R (s .contracts) b)) (s .bills))
+
+  keep-cancel : (l : Ledger) (s : Sheet) (c first : ℕ) → Related R l s → Related R (acceptL R l (callCancel c first) .next) (acceptS s (callCancel c first))
+  unfolding acceptL acceptS
+  keep-cancel l s c first r = record {
+    territory = r .territory;
+    contracts = r .contracts;
+    claims = r .claims;
+    same = gone l s r c first;
+    good = r .good;
+    sane = all-strike _ (named c first) (s .bills) (r .sane);
+    once = λ d f. let h : count (named d f) (s .bills) ≤ 1 = r .once d f in omega (arith, count-strike (named c first) (named d f) (s .bills));
+  }
+
+  keep-rebill : (l : Ledger) (s : Sheet) (b : BillRequest) → Related R l s → refusal R (viewS s) (callRebill b) ≡ 0 → Related R (acceptL R l (callRebill b) .next) (acceptS s (callRebill b))
+  unfolding acceptL acceptS viewS requestedBill rowOf
+  keep-rebill l s b r e = record {
+    territory = r .territory;
+    contracts = r .contracts;
+    claims = r .claims;
+    same = λ w. rw (r .contracts) (exchanged l s r (b .contract) (b .first) (requestedBill (s .contracts) b) w);
+    good = r .good;
+    sane = all-swap (BillOk R (s .contracts)) _ _ (s .bills) (record { isOpened = t .isOpened; ranges = t .ranges (r .good (b .contract) (t .isOpened)) }) (r .sane);
+    once = λ d f. rw (named-swap (b .contract) (b .first) (requestedBill (s .contracts) b) refl refl d f (s .bills)) (r .once d f);
+  }
+    where
+      t : Taken R (viewS s) b
+      t = ok .rebills (viewS s) b e
+
+  -- the contract wasn't open, so no bill of it stands: nobody's row is another
+  keep-open : (l : Ledger) (s : Sheet) (c fuel kind fix entry : ℕ) → Related R l s → refusal R (viewS s) (callOpen c fuel kind fix entry) ≡ 0 → Related R (acceptL R l (callOpen c fuel kind fix entry) .next) (acceptS s (callOpen c fuel kind fix entry))
+  unfolding acceptL acceptS viewS rowOf
+  keep-open l s c fuel kind fix entry r e = record {
+    territory = r .territory;
+    contracts = rw (r .contracts);
+    claims = r .claims;
+    same = λ w. r .same w ∙ total-all _ _ (s .bills) (all-map (BillOk R (s .contracts)) _ (λ b q. ap (λ (k : Contract). w (priced R k b)) (sym (at-other (s .contracts) c (b .contract) k′ (other b q)))) (s .bills) (r .sane));
+    good = contracts-put (λ k. R .contractOk (s .territory) k ≡ true) (s .contracts) c k′ (ok .opens (viewS s) c fuel kind fix entry e .ranges) (r .good);
+    sane = all-map (BillOk R (s .contracts)) (BillOk R (putContract (s .contracts) c k′)) (λ b q. record { isOpened = open-other (s .contracts) c (b .contract) k′ (other b q) ∙ q .isOpened; ranges = rw (at-other (s .contracts) c (b .contract) k′ (other b q)) (q .ranges) }) (s .bills) (r .sane);
+    once = r .once;
+  }
+    where
+      k′ : Contract
+      k′ = opening fuel kind fix entry
+
+      other : (b : Bill) → BillOk R (s .contracts) b → b .contract ≢ c
+      other b q p = true≢false (sym (rw p at (q .isOpened)) ∙ ok .opens (viewS s) c fuel kind fix entry e .new)
+
+  keep-cert : (l : Ledger) (s : Sheet) (c class effective : ℕ) → Related R l s → refusal R (viewS s) (callCert c class effective) ≡ 0 → Related R (acceptL R l (callCert c class effective) .next) (acceptS s (callCert c class effective))
+  unfolding acceptL acceptS viewS rowOf rerated priced
+  keep-cert l s c class effective r e = record {
+    territory = r .territory;
+    contracts = rw (r .contracts);
+    claims = r .claims;
+    same = λ w. rw (r .contracts) (total-map w (rerated R c k′) (l .rows) ∙ r .same (λ x. w (rerated R c k′ x)) ∙ total-cong _ _ (λ b. ap w (again b)) (s .bills));
+    good = contracts-put (λ k. R .contractOk (s .territory) k ≡ true) (s .contracts) c k′ (o .ranges (contractAt (s .contracts) c) (r .good c (o .isOpened))) (r .good);
+    sane = all-map (BillOk R (s .contracts)) (BillOk R (putContract (s .contracts) c k′)) still (s .bills) (r .sane);
+    once = r .once;
+  }
+    where
+      k′ : Contract
+      k′ = certify (contractAt (s .contracts) c) class effective
+
+      o : Certified R (viewS s) c class effective
+      o = ok .certs (viewS s) c class effective e
+
+      still : (b : Bill) → BillOk R (s .contracts) b → BillOk R (putContract (s .contracts) c k′) b
+      still b q = either (eqb (b .contract) c)
+          (λ e. let p : b .contract ≡ c = eq-yes (b .contract) c e in record {
+            isOpened = rw p (open-same (s .contracts) c k′);
+            ranges = subst (λ (k : Contract). R .billOk k b ≡ true) (sym (ap (contractAt (putContract (s .contracts) c k′)) p ∙ at-same (s .contracts) c k′)) (ok .any-cert (contractAt (s .contracts) c) class effective b (subst (λ (d : ℕ). R .billOk (contractAt (s .contracts) d) b ≡ true) p (q .ranges)));
+          })
+          (λ e. let n : b .contract ≢ c = eq-no (b .contract) c e in record { isOpened = open-other (s .contracts) c (b .contract) k′ n ∙ q .isOpened; ranges = rw (at-other (s .contracts) c (b .contract) k′ n) (q .ranges) })
+
+      again : (b : Bill) → rerated R c k′ (rowOf R (s .contracts) b) ≡ rowOf R (putContract (s .contracts) c k′) b
+      again b = either (eqb (b .contract) c)
+          (λ e. rw (e, eq-yes (b .contract) c e, at-same (s .contracts) c k′))
+          (λ e. rw (e, at-other (s .contracts) c (b .contract) k′ (eq-no (b .contract) c e)))
+
+  keep-claim : (l : Ledger) (s : Sheet) → Related R l s → Related R (acceptL R l callClaim .next) (acceptS s callClaim)
+  unfolding acceptL acceptS
+  keep-claim l s r = record { territory = r .territory; contracts = r .contracts; claims = ap suc (r .claims); same = r .same; good = r .good; sane = r .sane; once = r .once }
+
+  keep-report : (l : Ledger) (s : Sheet) (c : ℕ) → Related R l s → Related R (acceptL R l (callReport c) .next) (acceptS s (callReport c))
+  unfolding acceptL acceptS
+  keep-report l s c r = r
+
+  keep-total : (l : Ledger) (s : Sheet) → Related R l s → Related R (acceptL R l callTotal .next) (acceptS s callTotal)
+  unfolding acceptL acceptS
+  keep-total l s r = r
+
+  pub keep-act : (l : Ledger) (s : Sheet) (c : Call) → Related R l s → refusal R (viewS s) c ≡ 0 → Related R (acceptL R l c .next) (acceptS s c)
+  keep-act l s (callOpen c fuel kind fix entry) r e = keep-open l s c fuel kind fix entry r e
+  keep-act l s (callBill b) r e = keep-bill l s b r e
+  keep-act l s (callRebill b) r e = keep-rebill l s b r e
+  keep-act l s (callCert c class effective) r e = keep-cert l s c class effective r e
+  keep-act l s (callCancel c first) r e = keep-cancel l s c first r
+  keep-act l s callClaim r e = keep-claim l s r
+  keep-act l s (callReport c) r e = keep-report l s c r
+  keep-act l s callTotal r e = keep-total l s r

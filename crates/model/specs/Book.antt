@@ -1,0 +1,28 @@
+-- Document 01, "Contracts and the price book": where a contract's reference price R is found. Assumes nothing.
+use mathlib.Core.List.{List}
+use Prim.Native.Nat.{ℕ, _+_, _*_}
+use lib.ListN.{getD}
+use Rattle.calendar.specs.Days.{schemeMonth}
+use Rattle.rates.specs.declared.Fuel.{Fuel}
+use Rattle.rates.specs.declared.Kind.{Kind}
+use Rattle.rates.specs.declared.Kind.the-variants.{Fixed, Variable, Flexible, Index}
+use Rattle.rates.specs.declared.Contract.{Contract}
+use Rattle.model.specs.Codes.{fuelCode}
+
+-- the book has 1,740 prices in mils, 0 meaning not published.
+-- Fixed: entry fuel × 852 + price-fix day. Variable: 1,704 + fuel × 12 + month. Index: 1,728 + month. The month is that of the first day
+abbrev pub bookIndex : Fuel → Kind → (first : ℕ) → ℕ
+bookIndex fuel (Fixed fix entry) first = fuelCode fuel * 852 + fix
+bookIndex fuel Variable first = 1704 + fuelCode fuel * 12 + schemeMonth first
+bookIndex fuel Flexible first = 0
+bookIndex fuel Index first = 1728 + schemeMonth first
+
+-- R: of a flexible contract the weighted price (WAP) given with the bill, else the book's price
+abbrev pub referenceOf : Kind → (wap published : ℕ) → ℕ
+referenceOf (Fixed fix entry) wap published = published
+referenceOf Variable wap published = published
+referenceOf Flexible wap published = wap
+referenceOf Index wap published = published
+
+unfoldable pub reference : Contract → (first wap : ℕ) → (book : List ℕ) → ℕ
+reference k first wap book = referenceOf (k .kind) wap (getD book (bookIndex (k .fuel) (k .kind) first) 0)

@@ -1,0 +1,126 @@
+-- Document 01, "Calls": the calls of a history, what they answer, and what the refusals read. Assumes nothing.
+use mathlib.Core.Bool.{Bool, cond, _&&_}
+use mathlib.Core.List.{List, [], _∷_}
+use Prim.Native.Nat.{ℕ}
+use lib.Dec.{leb, eqb}
+use lib.IntN.{ℤ, pos}
+use Rattle.rates.specs.declared.Bill.{Bill}
+use Rattle.model.specs.declared.Answer.{Answer}
+use Rattle.model.specs.declared.Answer.the-variants.{Refused, Done, Billed, Rebilled, Certified, Cancelled, Claimed, Reported, Totalled}
+use Rattle.model.specs.Contracts.{Contracts, contractAt}
+use Rattle.model.specs.Book.{reference}
+
+-- the numbers of a bill or rebill, and the book that it brings
+pub record BillRequest : Type 0 where
+  pub contract : ℕ
+  pub first : ℕ
+  pub last : ℕ
+  pub kwh : ℕ
+  pub supply : ℕ
+  pub wap : ℕ
+  pub book : List ℕ
+
+-- the eight calls of a history
+pub data Call : Type 0 where
+  callOpen : (contract fuel kind priceFixDay entryDay : ℕ) → Call
+  callBill : BillRequest → Call
+  callRebill : BillRequest → Call
+  callCert : (contract class effectiveDay : ℕ) → Call
+  callCancel : (contract first : ℕ) → Call
+  callClaim : Call
+  callReport : (contract : ℕ) → Call
+  callTotal : Call
+
+-- ---- answers
+
+-- the paper's number of an answer: that of the refusal, 0 where the call is accepted
+abbrev pub refusalNumber : Answer → ℕ
+refusalNumber (Refused n) = n
+refusalNumber Done = 0
+refusalNumber (Billed r rate amount) = 0
+refusalNumber (Rebilled r rate change) = 0
+refusalNumber (Certified change rows) = 0
+refusalNumber (Cancelled change) = 0
+refusalNumber (Claimed pence rest) = 0
+refusalNumber (Reported rows kwh due) = 0
+refusalNumber (Totalled due unclaimed) = 0
+
+-- the paper's values of an answer, in its order, zeros after them to three: a refusal gives zeros
+abbrev pub answerValues : Answer → List ℤ
+answerValues (Refused n) = pos 0 ∷ pos 0 ∷ pos 0 ∷ []
+answerValues Done = pos 0 ∷ pos 0 ∷ pos 0 ∷ []
+answerValues (Billed r rate amount) = pos r ∷ pos rate ∷ pos amount ∷ []
+answerValues (Rebilled r rate change) = pos r ∷ pos rate ∷ change ∷ []
+answerValues (Certified change rows) = change ∷ pos rows ∷ pos 0 ∷ []
+answerValues (Cancelled change) = change ∷ pos 0 ∷ pos 0 ∷ []
+answerValues (Claimed pence rest) = pence ∷ pos rest ∷ pos 0 ∷ []
+answerValues (Reported rows kwh due) = pos rows ∷ pos kwh ∷ pos due ∷ []
+answerValues (Totalled due unclaimed) = pos due ∷ unclaimed ∷ pos 0 ∷ []
+
+-- the customer's signed amount: the amount of bill, and the differences of rebill, cert and cancel, zero where refused
+abbrev pub customerAmount : Answer → ℤ
+customerAmount (Refused n) = pos 0
+customerAmount Done = pos 0
+customerAmount (Billed r rate amount) = pos amount
+customerAmount (Rebilled r rate change) = change
+customerAmount (Certified change rows) = change
+customerAmount (Cancelled change) = change
+customerAmount (Claimed pence rest) = pos 0
+customerAmount (Reported rows kwh due) = pos 0
+customerAmount (Totalled due unclaimed) = pos 0
+
+-- the pence that a claim answers
+abbrev pub claimPence : Answer → ℤ
+claimPence (Refused n) = pos 0
+claimPence Done = pos 0
+claimPence (Billed r rate amount) = pos 0
+claimPence (Rebilled r rate change) = pos 0
+claimPence (Certified change rows) = pos 0
+claimPence (Cancelled change) = pos 0
+claimPence (Claimed pence rest) = pence
+claimPence (Reported rows kwh due) = pos 0
+claimPence (Totalled due unclaimed) = pos 0
+
+-- ---- what the refusals read
+
+-- a view, of which the ledger and the sheet each have their own: `held p` is how many rows (or bills) pass the test p
+pub record View : Type 0 where
+  pub territory : ℕ
+  pub contracts : Contracts
+  pub held : (Bill → Bool) → ℕ
+  pub claims : ℕ
+
+-- a bill with that contract and first day
+unfoldable pub named : (contract first : ℕ) → Bill → Bool
+named c first b = eqb (b .contract) c && eqb (b .first) first
+
+-- a bill of that contract that shares a day with the span
+unfoldable pub sharing : (contract first last : ℕ) → Bill → Bool
+sharing c first last b = eqb (b .contract) c && (leb (b .first) last && leb first (b .last))
+
+-- a refusal: its number, and whether it fits
+pub record Test : Type 0 where
+  pub number : ℕ
+  pub fits : Bool
+
+infix 3 _if_
+abbrev pub _if_ : ℕ → Bool → Test
+n if b = record { number = n; fits = b }
+
+-- the first number that fits, and 0 where none does
+abbrev pub firstOf : List Test → ℕ
+firstOf [] = 0
+firstOf (t ∷ ts) = cond (t .fits) (t .number) (firstOf ts)
+
+-- ---- what an accepted call brings
+
+-- the bill of a bill or rebill: R from its own book or WAP
+unfoldable pub requestedBill : Contracts → BillRequest → Bill
+requestedBill cs q = record {
+  contract = q .contract;
+  first = q .first;
+  last = q .last;
+  kwh = q .kwh;
+  reference = reference (contractAt cs (q .contract)) (q .first) (q .wap) (q .book);
+  supply = q .supply;
+}

@@ -1,0 +1,30 @@
+-- The rules by which a ledger and its sheet are kept. Document 01's are the value `document01`; the ledger, the sheet and the balance
+-- are stated for any rules, so that a later paper is another value. Assumes nothing.
+use mathlib.Core.Bool.{Bool}
+use mathlib.Core.List.{List}
+use Prim.Native.Nat.{ℕ}
+use Rattle.rates.specs.declared.Contract.{Contract}
+use Rattle.rates.specs.declared.Bill.{Bill}
+use Rattle.model.specs.Contracts.{Contracts, contractAt}
+use Rattle.model.specs.Calls.{Call, View, Test, firstOf}
+
+pub record Rules : Type 0 where
+  -- contract numbers are below this one
+  pub contractLimit : ℕ
+  -- the tests that can turn a call of a history down, in checking order
+  pub tests : View → Call → List Test
+  -- a bill's rate, its part of due, and the most that the part can be, under its contract, in ticks
+  pub rate : Contract → Bill → ℕ
+  pub amount : Contract → Bill → ℕ
+  pub most : Contract → Bill → ℕ
+  -- the ranges that an open contract and a held row keep
+  pub contractOk : (territory : ℕ) → Contract → Bool
+  pub billOk : Contract → Bill → Bool
+
+-- the number that turns a call down, 0 where it is accepted
+unfoldable pub refusal : Rules → View → Call → ℕ
+refusal R v c = firstOf (R .tests v c)
+
+-- a bill's part of due, by its contract as it then stands
+unfoldable pub partOfDue : Rules → Contracts → Bill → ℕ
+partOfDue R cs b = R .amount (contractAt cs (b .contract)) b

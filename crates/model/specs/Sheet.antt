@@ -1,0 +1,63 @@
+-- Document 01, "A history and its sheet": the sheet is fed the territory and the calls, and no answer and no byte. Assumes nothing.
+use mathlib.Core.Bool.{Bool, cond}
+use mathlib.Core.List.{List, [], _∷_, map}
+use Prim.Native.Nat.{ℕ, zero, suc}
+use Rattle.basics.specs.Lists.{total, count}
+use Rattle.rates.specs.declared.Contract.{Contract}
+use Rattle.rates.specs.declared.Bill.{Bill}
+use Rattle.model.specs.Codes.{opening, certify}
+use Rattle.model.specs.Contracts.{Contracts, noContracts, contractAt, putContract}
+use Rattle.model.specs.Calls.{Call, callOpen, callBill, callRebill, callCert, callCancel, callClaim, callReport, callTotal, View, named, requestedBill}
+use Rattle.model.specs.Rules.{Rules, refusal, partOfDue}
+
+-- contracts, bills in no order, and a count of claims
+pub record Sheet : Type 0 where
+  pub territory : ℕ
+  pub contracts : Contracts
+  pub bills : List Bill
+  pub claims : ℕ
+
+-- at first none
+unfoldable pub blank : (territory : ℕ) → Sheet
+blank t = record { territory = t; contracts = noContracts; bills = []; claims = 0 }
+
+unfoldable pub view : Sheet → View
+view s = record { territory = s .territory; contracts = s .contracts; held = λ p. count p (s .bills); claims = s .claims }
+
+-- the bills that don't pass the test
+abbrev pub strikeOut : (Bill → Bool) → List Bill → List Bill
+strikeOut p [] = []
+strikeOut p (x ∷ xs) = cond (p x) (strikeOut p xs) (x ∷ strikeOut p xs)
+
+-- b in place of a bill that passes the test
+unfoldable pub inPlaceOf : (Bill → Bool) → Bill → Bill → Bill
+inPlaceOf p b x = cond (p x) b x
+
+abbrev pub withBills : Sheet → List Bill → Sheet
+withBills s bs = record { territory = s .territory; contracts = s .contracts; bills = bs; claims = s .claims }
+
+abbrev pub withContract : Sheet → ℕ → Contract → Sheet
+withContract s c k = record { territory = s .territory; contracts = putContract (s .contracts) c k; bills = s .bills; claims = s .claims }
+
+-- what each call does to the sheet where nothing turns it down
+unfoldable pub accept : Sheet → Call → Sheet
+accept s (callOpen c fuel kind fix entry) = withContract s c (opening fuel kind fix entry)
+accept s (callBill q) = withBills s (requestedBill (s .contracts) q ∷ s .bills)
+accept s (callRebill q) = withBills s (map (inPlaceOf (named (q .contract) (q .first)) (requestedBill (s .contracts) q)) (s .bills))
+accept s (callCert c class effective) = withContract s c (certify (contractAt (s .contracts) c) class effective)
+accept s (callCancel c first) = withBills s (strikeOut (named c first) (s .bills))
+accept s callClaim = record { territory = s .territory; contracts = s .contracts; bills = s .bills; claims = suc (s .claims) }
+accept s (callReport c) = s
+accept s callTotal = s
+
+-- a call that is turned down leaves the sheet as it was
+abbrev pub unlessRefused : ℕ → Sheet → Sheet → Sheet
+unlessRefused zero s accepted = accepted
+unlessRefused (suc n) s accepted = s
+
+unfoldable pub step : Rules → Sheet → Call → Sheet
+step R s c = unlessRefused (refusal R (view s) c) s (accept s c)
+
+-- due: the sum of the parts of the bills on the sheet, by its latest facts
+unfoldable pub due : Rules → Sheet → ℕ
+due R s = total (partOfDue R (s .contracts)) (s .bills)

@@ -1,0 +1,84 @@
+-- Document 01, "Prices per kWh": parts, rates, a bill's class and a class's cap. R is the reference wholesale price and S the supply
+-- price, in mils; rates and caps are in ticks (a tick is a ten-thousandth of a penny). Assumes nothing.
+use mathlib.Core.Bool.{Bool, false, not, cond, _&&_}
+use Prim.Native.Nat.{ℕ, _+_, _*_}
+use lib.Dec.{leb, ltb}
+use lib.IntN.{ℤ, pos, _-ℤ_}
+use Rattle.basics.specs.Integers.{minℤ, atLeastZero}
+use Rattle.rates.specs.declared.Fuel.{Fuel}
+use Rattle.rates.specs.declared.Fuel.the-variants.{Electricity, Gas}
+use Rattle.rates.specs.declared.Kind.{Kind}
+use Rattle.rates.specs.declared.Kind.the-variants.{Fixed, Variable, Flexible, Index}
+use Rattle.rates.specs.declared.Certificate.{Certificate}
+use Rattle.rates.specs.declared.Certificate.the-variants.{None}
+use Rattle.rates.specs.declared.Certificate.the-variants as certificate
+use Rattle.rates.specs.declared.Contract.{Contract}
+use Rattle.rates.specs.declared.Bill.{Bill}
+use Rattle.rates.specs.declared.Class.{Class}
+use Rattle.rates.specs.declared.Class.the-variants.{Baseline, Etii, QhsOld, QhsNew}
+use Rattle.rates.specs.declared.Prices.{Prices}
+use Rattle.rates.specs.declared.Prices.the-variants.{Limited, Unlimited}
+use Rattle.rates.specs.Prices.{pricesOf}
+
+-- the least of R − support price, maximum discount and S − minimum; of QHS the lesser of R and S − QHS minimum
+unfoldable pub leastTerm : Prices → (R S : ℕ) → ℤ
+leastTerm (Limited support maximum minimum) R S = minℤ (minℤ (pos R -ℤ pos support) (pos maximum)) (pos S -ℤ pos minimum)
+leastTerm (Unlimited minimum) R S = minℤ (pos R) (pos S -ℤ pos minimum)
+
+-- a part: max(min(R − support price, maximum discount, S − minimum), 0), and of QHS max(min(R, S − QHS minimum), 0)
+unfoldable pub part : Prices → (R S : ℕ) → ℕ
+part prices R S = atLeastZero (leastTerm prices R S)
+
+-- the part of a class of a fuel
+unfoldable pub partOf : Fuel → Class → (R S : ℕ) → ℕ
+partOf fuel class R S = part (pricesOf fuel class) R S
+
+-- a class's rate. Baseline: 10 times the baseline part; ETII: 3 times the baseline part plus 7 times the ETII part, each part first held
+-- at zero; QHS: 10 times its part
+unfoldable pub classRate : Fuel → Class → (R S : ℕ) → ℕ
+classRate fuel Baseline R S = 10 * partOf fuel Baseline R S
+classRate fuel Etii R S = 3 * partOf fuel Baseline R S + 7 * partOf fuel Etii R S
+classRate fuel QhsOld R S = 10 * partOf fuel QhsOld R S
+classRate fuel QhsNew R S = 10 * partOf fuel QhsNew R S
+
+-- the QHS minimum: the new one applies when the bill's first day is 792 or later, except to a fixed contract entered before day 792
+abbrev pub enteredEarly : Kind → Bool
+enteredEarly (Fixed fix entry) = ltb entry 792
+enteredEarly Variable = false
+enteredEarly Flexible = false
+enteredEarly Index = false
+
+unfoldable pub qhsClass : Kind → (first : ℕ) → Class
+qhsClass kind first = cond (leb 792 first && not (enteredEarly kind)) QhsNew QhsOld
+
+-- a bill's class: a certificate applies to bills whose first day is on or after the effective day; earlier bills are baseline
+abbrev pub certified : Certificate → Kind → (first : ℕ) → Class
+certified None kind first = Baseline
+certified (certificate.Etii effective) kind first = cond (leb effective first) Etii Baseline
+certified (certificate.Qhs effective) kind first = cond (leb effective first) (qhsClass kind first) Baseline
+
+unfoldable pub classOf : Contract → (first : ℕ) → Class
+classOf contract first = certified (contract .certificate) (contract .kind) first
+
+-- a class's cap; of QHS 10 times max(S − QHS minimum, 0)
+unfoldable pub classCap : Fuel → Class → (S : ℕ) → ℕ
+classCap Electricity Baseline S = 19610
+classCap Gas Baseline S = 6970
+classCap Electricity Etii S = 68183
+classCap Gas Etii S = 30091
+classCap Electricity QhsOld S = 10 * atLeastZero (pos S -ℤ pos 34000)
+classCap Electricity QhsNew S = 10 * atLeastZero (pos S -ℤ pos 28240)
+classCap Gas QhsOld S = 10 * atLeastZero (pos S -ℤ pos 7830)
+classCap Gas QhsNew S = 10 * atLeastZero (pos S -ℤ pos 6500)
+
+-- a bill's rate under its contract, from its first day, R and S
+unfoldable pub rate : Contract → Bill → ℕ
+rate contract bill = classRate (contract .fuel) (classOf contract (bill .first)) (bill .reference) (bill .supply)
+
+-- the cap of a bill's class
+unfoldable pub cap : Contract → Bill → ℕ
+cap contract bill = classCap (contract .fuel) (classOf contract (bill .first)) (bill .supply)
+
+-- a bill's amount: kWh times the rate
+unfoldable pub amount : Contract → Bill → ℕ
+amount contract bill = bill .kwh * rate contract bill

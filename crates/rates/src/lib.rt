@@ -1,0 +1,204 @@
+// The discount per kWh of a bill: contracts, certificates, classes, parts, rates, caps and amounts.
+mod fuels;
+
+use fuels::Electricity;
+use fuels::Gas;
+ghost use mathlib.Core.Path.{_≡_};
+ghost use Prim.Native.Nat.{_-_, _≤_, min};
+ghost use Rattle.rates.specs.Prices.{pricesOf};
+ghost use Rattle.rates.specs.Rates.{part, partOf, classRate, enteredEarly, qhsClass, classOf, rate, amount};
+
+// Fuel: 0 electricity, 1 gas.
+pub enum Fuel {
+    Electricity,
+    Gas,
+}
+
+// Kind: 0 fixed, with its price-fix day and its day of entry; 1 variable; 2 flexible; 3 day-ahead index.
+pub enum Kind {
+    Fixed { price_fix_day: u32, entry_day: u32 },
+    Variable,
+    Flexible,
+    Index,
+}
+
+// A certificate: class 0 none, 1 ETII, 2 QHS, with its effective day.
+pub enum Certificate {
+    None,
+    Etii { effective_day: u32 },
+    Qhs { effective_day: u32 },
+}
+
+pub struct Contract {
+    pub fuel: Fuel,
+    pub kind: Kind,
+    pub certificate: Certificate,
+}
+
+// A bill: its contract's number, first and last day, kWh, and the reference and supply prices R and S in mils.
+pub struct Bill {
+    pub contract: u32,
+    pub first: u32,
+    pub last: u32,
+    pub kwh: u32,
+    pub reference: u32,
+    pub supply: u32,
+}
+
+// A bill's class; of QHS, with the minimum that applies.
+pub enum Class {
+    Baseline,
+    Etii,
+    QhsOld,
+    QhsNew,
+}
+
+// The prices of a class of a fuel, in mils. Of QHS there is a minimum alone.
+pub enum Prices {
+    Limited {
+        support: u32,
+        maximum: u32,
+        minimum: u32,
+    },
+    Unlimited {
+        minimum: u32,
+    },
+}
+
+// The prices of a class of a fuel.
+fn prices_of(fuel: Fuel, class: Class) -> Prices
+    ensures { λ r. ⌜ r ≡ pricesOf fuel class ⌝ }
+{
+    match fuel {
+        Fuel::Electricity => Electricity::prices(class),
+        Fuel::Gas => Gas::prices(class),
+    }
+}
+
+// The greater of x − y and zero.
+fn above(x: u32, y: u32) -> u32
+    ensures { λ r. ⌜ r ≡ x - y ⌝ }
+{
+    if x < y { 0 } else { x - y }
+}
+
+// The lesser of x and y.
+fn lesser(x: u32, y: u32) -> u32
+    ensures { λ r. ⌜ r ≡ min x y ⌝ }
+{
+    if x < y { x } else { y }
+}
+
+// A part, in mils.
+fn part(prices: Prices, reference: u32, supply: u32) -> u32
+    ensures { λ r. ⌜ r ≡ part prices reference supply ⌝ }
+{
+    match prices {
+        Prices::Limited {
+            support,
+            maximum,
+            minimum,
+        } => lesser(
+            lesser(above(reference, support), maximum),
+            above(supply, minimum),
+        ),
+        Prices::Unlimited { minimum } => lesser(reference, above(supply, minimum)),
+    }
+}
+
+// The part of a class of a fuel, in mils.
+fn part_of(fuel: Fuel, class: Class, reference: u32, supply: u32) -> u64
+    ensures { λ r. ⌜ (r ≡ partOf fuel class reference supply) × (r ≤ 4294967295) ⌝ }
+{
+    part(prices_of(fuel, class), reference, supply) as u64
+}
+
+// The rate of a class, in ticks.
+pub fn class_rate(fuel: Fuel, class: Class, reference: u32, supply: u32) -> u64
+    ensures { λ r. ⌜ r ≡ classRate fuel class reference supply ⌝ }
+{
+    match class {
+        Class::Baseline => 10 * part_of(fuel, Class::Baseline, reference, supply),
+        Class::Etii => {
+            let baseline = part_of(fuel, Class::Baseline, reference, supply);
+            let etii = part_of(fuel, Class::Etii, reference, supply);
+            3 * baseline + 7 * etii
+        }
+        Class::QhsOld => 10 * part_of(fuel, Class::QhsOld, reference, supply),
+        Class::QhsNew => 10 * part_of(fuel, Class::QhsNew, reference, supply),
+    }
+}
+
+// Whether a contract is fixed and was entered before day 792.
+fn entered_early(kind: Kind) -> bool
+    ensures { λ r. ⌜ r ≡ enteredEarly kind ⌝ }
+{
+    match kind {
+        Kind::Fixed {
+            price_fix_day: _,
+            entry_day,
+        } => entry_day < 792,
+        Kind::Variable => false,
+        Kind::Flexible => false,
+        Kind::Index => false,
+    }
+}
+
+// The class of a qualifying heat supplier's bill with that first day.
+fn qhs_class(kind: Kind, first: u32) -> Class
+    ensures { λ r. ⌜ r ≡ qhsClass kind first ⌝ }
+{
+    if first < 792 {
+        return Class::QhsOld;
+    }
+    if entered_early(kind) {
+        return Class::QhsOld;
+    }
+    Class::QhsNew
+}
+
+// The class of a contract's bill with that first day.
+pub fn class_of(contract: Contract, first: u32) -> Class
+    ensures { λ r. ⌜ r ≡ classOf contract first ⌝ }
+{
+    let certificate = contract.certificate;
+    let kind = contract.kind;
+    match certificate {
+        Certificate::None => Class::Baseline,
+        Certificate::Etii { effective_day } => {
+            if effective_day <= first {
+                Class::Etii
+            } else {
+                Class::Baseline
+            }
+        }
+        Certificate::Qhs { effective_day } => {
+            if effective_day <= first {
+                qhs_class(kind, first)
+            } else {
+                Class::Baseline
+            }
+        }
+    }
+}
+
+// A bill's rate under its contract, in ticks.
+pub fn rate(contract: Contract, bill: Bill) -> u64
+    ensures { λ r. ⌜ r ≡ rate contract bill ⌝ }
+{
+    let fuel = contract.fuel;
+    class_rate(
+        fuel,
+        class_of(contract, bill.first),
+        bill.reference,
+        bill.supply,
+    )
+}
+
+// A bill's amount under its contract, in ticks: kWh times the rate.
+pub fn amount(contract: Contract, bill: Bill) -> u64
+    requires { ⌜ (bill .kwh ≤ 100000000) × (bill .supply ≤ 999999) ⌝ }
+    ensures { λ r. ⌜ r ≡ amount contract bill ⌝ }
+{
+    bill.kwh as u64 * rate(contract, bill)
+}

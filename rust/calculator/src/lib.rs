@@ -1,0 +1,10 @@
+//! Calculator of the Energy Bills Discount Scheme, written from the supplier guidance.
+//!
+//! "The guidance" is the Department for Energy Security and Net Zero's *Energy Bills
+//! Discount Scheme: Guidance for Licensed Energy Suppliers (Great Britain and Northern
+//! Ireland)*, version 1.1, last updated 22 September 2023. "Document 01" is the product's
+//! scope, which gives the units, the day numbers and the house rules. Where the guidance's
+//! prose and the formula that it quotes from Regulation 29 differ, the formula decides.
+
+pub mod dates;
+pub mod rates;

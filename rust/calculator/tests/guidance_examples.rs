@@ -1,0 +1,232 @@
+//! The worked examples of the guidance, sections 3.4 and 3.5, each under its own title.
+//!
+//! The guidance's prices in p/kWh are written here in mils (30.2p is 30_200), its discounts
+//! in ticks (1.961p is 19_610) and its pounds in ten-thousandths of a penny (£1 is 1_000_000).
+
+use calculator::dates::day_number;
+use calculator::rates::{amount, rate, Bill, Certificate, Contract, Fuel, Kind};
+
+const SCHEME_START_DAY: u32 = 486;
+const SCHEME_INTRODUCTION_DAY: u32 = 511;
+
+const ETII_FROM_START: Certificate = Certificate::Etii {
+    effective_day: SCHEME_START_DAY,
+};
+
+/// A QHS certificate is effective from 26 April 2023 at the earliest (section 1.4).
+const QHS_FROM_INTRODUCTION: Certificate = Certificate::Qhs {
+    effective_day: SCHEME_INTRODUCTION_DAY,
+};
+
+/// A fixed contract priced and entered on one date.
+fn fixed_on(year: u32, month: u32, day: u32) -> Kind {
+    let signed = day_number(year, month, day).expect("the contract is signed in the range");
+    Kind::Fixed {
+        price_fix_day: signed,
+        entry_day: signed,
+    }
+}
+
+/// An amount in whole pence, rounded half up as the guidance prints it.
+fn printed_pence(amount: i64) -> i64 {
+    (amount + 5_000) / 10_000
+}
+
+/// Section 3.4, "Fixed price contract example – Baseline support": 1.961p/kWh.
+#[test]
+fn fixed_price_contract_baseline_support() {
+    let contract = Contract {
+        fuel: Fuel::Electricity,
+        kind: fixed_on(2022, 12, 3),
+        certificate: Certificate::None,
+    };
+    let bill = Bill {
+        first_day: SCHEME_START_DAY,
+        kwh: 1,
+        reference_price: 43_810,
+        supply_price: 91_200,
+    };
+    assert_eq!(rate(&contract, &bill), 19_610);
+}
+
+/// Section 3.4, "Fixed Price Contract example – ETII support": 0.5883 + 6.23 = 6.8183p/kWh,
+/// which the guidance prints as 6.82. Its £275.60 for 4,041 kWh comes from the printed
+/// 6.82; the formula's rate gives £275.53.
+#[test]
+fn fixed_price_contract_etii_support() {
+    let contract = Contract {
+        fuel: Fuel::Electricity,
+        kind: fixed_on(2022, 10, 9),
+        certificate: ETII_FROM_START,
+    };
+    let bill = Bill {
+        first_day: SCHEME_START_DAY,
+        kwh: 4_041,
+        reference_price: 32_330,
+        supply_price: 61_200,
+    };
+    let exact_rate = rate(&contract, &bill);
+    assert_eq!(exact_rate, 5_883 + 62_300);
+    let printed_rate = (exact_rate + 50) / 100 * 100;
+    assert_eq!(printed_rate, 68_200);
+    assert_eq!(printed_pence(bill.kwh * printed_rate), 27_560);
+    assert_eq!(amount(&contract, &bill), 275_527_503);
+    assert_eq!(printed_pence(amount(&contract, &bill)), 27_553);
+}
+
+/// Section 3.4, "Fixed price contract example – QHS support": 3.8p/kWh and £9,280.36 for
+/// 244,220 kWh. The example discounts all of April 2023; a bill that starts before the
+/// certificate's effective day, 26 April 2023 at the earliest, is baseline and gets nothing
+/// at this reference wholesale price.
+#[test]
+fn fixed_price_contract_qhs_support() {
+    let contract = Contract {
+        fuel: Fuel::Gas,
+        kind: fixed_on(2022, 12, 28),
+        certificate: QHS_FROM_INTRODUCTION,
+    };
+    let bill = Bill {
+        first_day: SCHEME_INTRODUCTION_DAY,
+        kwh: 244_220,
+        reference_price: 7_610,
+        supply_price: 11_630,
+    };
+    assert_eq!(rate(&contract, &bill), 38_000);
+    assert_eq!(amount(&contract, &bill), 9_280_360_000);
+    let from_start = Bill {
+        first_day: SCHEME_START_DAY,
+        ..bill
+    };
+    assert_eq!(rate(&contract, &from_start), 0);
+}
+
+/// Section 3.4, "Variable Price contract example – QHS support": 3.50p/kWh, with the
+/// minimum supply price of 1 February 2024.
+#[test]
+fn variable_price_contract_qhs_support() {
+    let contract = Contract {
+        fuel: Fuel::Gas,
+        kind: Kind::Variable,
+        certificate: QHS_FROM_INTRODUCTION,
+    };
+    let bill = Bill {
+        first_day: day_number(2024, 2, 1).expect("the day is in the range"),
+        kwh: 1,
+        reference_price: 4_200,
+        supply_price: 10_000,
+    };
+    assert_eq!(rate(&contract, &bill), 35_000);
+}
+
+/// Section 3.4, "Variable price contract example": the published baseline discount is zero,
+/// so there is none, "even if the variable tariff increases". The reference wholesale price
+/// is not printed; 30.2p/kWh is the highest with a published discount of zero.
+#[test]
+fn variable_price_contract_baseline_support() {
+    let contract = Contract {
+        fuel: Fuel::Electricity,
+        kind: Kind::Variable,
+        certificate: Certificate::None,
+    };
+    for reference_price in [0, 18_500, 30_199, 30_200] {
+        for supply_price in [33_730, 40_000, 999_999] {
+            let bill = Bill {
+                first_day: SCHEME_START_DAY,
+                kwh: 1,
+                reference_price,
+                supply_price,
+            };
+            assert_eq!(rate(&contract, &bill), 0);
+        }
+    }
+}
+
+/// Section 3.4, "Flexible price contract example – baseline support": 1.78p/kWh.
+#[test]
+fn flexible_price_contract_baseline_support() {
+    let contract = Contract {
+        fuel: Fuel::Electricity,
+        kind: Kind::Flexible,
+        certificate: Certificate::None,
+    };
+    let bill = Bill {
+        first_day: SCHEME_START_DAY,
+        kwh: 1,
+        reference_price: 31_980,
+        supply_price: 67_030,
+    };
+    assert_eq!(rate(&contract, &bill), 17_800);
+}
+
+/// Section 3.4, "Flexible price contract example – ETII support": 0.5883 + 6.23 =
+/// 6.8183p/kWh, which the guidance prints as 6.82.
+#[test]
+fn flexible_price_contract_etii_support() {
+    let contract = Contract {
+        fuel: Fuel::Electricity,
+        kind: Kind::Flexible,
+        certificate: ETII_FROM_START,
+    };
+    let bill = Bill {
+        first_day: SCHEME_START_DAY,
+        kwh: 1,
+        reference_price: 35_000,
+        supply_price: 58_330,
+    };
+    assert_eq!(rate(&contract, &bill), 68_183);
+}
+
+/// Section 3.4, "Illustrative Examples" 1 to 3 of blend and extend: the maximum discount,
+/// nothing, and the supply price less the minimum supply price. The guidance's text gives
+/// no figures for them, so the supply prices are chosen here; the base discount is that of
+/// the fixed price contract example for baseline support.
+#[test]
+fn blend_and_extend_lowers_only_the_supply_price() {
+    let contract = Contract {
+        fuel: Fuel::Electricity,
+        kind: fixed_on(2022, 12, 3),
+        certificate: Certificate::None,
+    };
+    for (supply_price, expected) in [(60_000, 19_610), (29_000, 0), (31_200, 10_000)] {
+        let bill = Bill {
+            first_day: day_number(2023, 6, 1).expect("the day is in the range"),
+            kwh: 1,
+            reference_price: 43_810,
+            supply_price,
+        };
+        assert_eq!(rate(&contract, &bill), expected);
+    }
+}
+
+/// Section 3.5, "Table 1: Breakdown of the Discount apportionment": the intermediary's
+/// flexible gas contract, treated as three separate contracts. Each row has the certificate,
+/// the kWh, the discount in ticks and the printed discount in pence.
+#[test]
+fn intermediary_discount_apportionment() {
+    let table = [
+        (Certificate::None, 808_750, 4_700, 380_113),
+        (ETII_FROM_START, 1_294_000, 10_300, 1_332_820),
+        (QHS_FROM_INTRODUCTION, 1_132_250, 73_600, 8_333_360),
+    ];
+    let mut total_kwh = 0;
+    let mut total_amount = 0;
+    for (certificate, kwh, expected_rate, expected_pence) in table {
+        let contract = Contract {
+            fuel: Fuel::Gas,
+            kind: Kind::Flexible,
+            certificate,
+        };
+        let bill = Bill {
+            first_day: SCHEME_INTRODUCTION_DAY,
+            kwh,
+            reference_price: 11_170,
+            supply_price: 15_190,
+        };
+        assert_eq!(rate(&contract, &bill), expected_rate);
+        assert_eq!(printed_pence(amount(&contract, &bill)), expected_pence);
+        total_kwh += kwh;
+        total_amount += amount(&contract, &bill);
+    }
+    assert_eq!(total_kwh, 3_235_000);
+    assert_eq!(printed_pence(total_amount), 10_046_293);
+}
