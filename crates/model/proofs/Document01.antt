@@ -101,8 +101,10 @@ module _ (v : View) (q : BillRequest) where
         isOpened = not-no _ e5;
         ranges = λ g. every-all (billTests k (requestedBill (v .contracts) q)) (
           no-not _ e7,
-          (yes-le (q .kwh) 100000000 (kwh-low k q e3 e8 e11),
-          (yes-le (q .supply) 999999 (supply-low k q e3 e8 e11), (yes-le _ 999999 (price-low k q e3 e8 e11), (price-there k q e3 e8 e11, tt)))),
+          (
+            yes-le (q .kwh) 100000000 (kwh-low k q e3 e8 e11),
+            (yes-le (q .supply) 999999 (supply-low k q e3 e8 e11), (yes-le _ 999999 (price-low k q e3 e8 e11), (price-there k q e3 e8 e11, tt))),
+          ),
         );
       }
 

@@ -21,9 +21,24 @@ pub enum Answer {
         rate: u64,
         change: i64,
     },
-    Certified { change: i64, rows: u32 },
-    Cancelled { change: i64 },
-    Claimed { pence: i64, rest: u32 },
-    Reported { rows: u32, kwh: u64, due: u64 },
-    Totalled { due: u64, unclaimed: i64 },
+    Certified {
+        change: i64,
+        rows: u32,
+    },
+    Cancelled {
+        change: i64,
+    },
+    Claimed {
+        pence: i64,
+        rest: u32,
+    },
+    Reported {
+        rows: u32,
+        kwh: u64,
+        due: u64,
+    },
+    Totalled {
+        due: u64,
+        unclaimed: i64,
+    },
 }
