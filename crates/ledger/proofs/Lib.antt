@@ -1,0 +1,5 @@
+-- Laws of any layout, and of document 01's packed ledger.
+pub mod Order
+pub mod LayoutLaws
+pub mod RoundTrips
+pub mod PackedLedger

@@ -1,0 +1,10 @@
+pub mod Parts
+pub mod Pack
+pub mod Lists
+pub mod Slots
+pub mod Zeros
+pub mod Pairs
+pub mod Numbered
+pub mod Places
+pub mod Arrays
+pub mod Edits

@@ -1,0 +1,16 @@
+-- A test of the pairs of a list, the earlier element first.
+use mathlib.Core.Bool.{Bool, true, _&&_}
+use mathlib.Core.List.{List, [], _∷_, map}
+use Rattle.basics.specs.Tests.{every}
+
+module _ {A : Type 0} (p : A → A → Bool) where
+  -- each pair passes
+  abbrev pub everyPair : List A → Bool
+  everyPair [] = true
+  everyPair (x ∷ xs) = every (map (p x) xs) && everyPair xs
+
+  -- each pair of neighbours passes
+  abbrev pub everyNeighbours : List A → Bool
+  everyNeighbours [] = true
+  everyNeighbours (x ∷ []) = true
+  everyNeighbours (x ∷ y ∷ xs) = p x y && everyNeighbours (y ∷ xs)

@@ -1,0 +1,88 @@
+// Records of any size in lent bytes: put in, taken out, written over, and tested for zeros.
+ghost use mathlib.Core.Path.{_≡_};
+ghost use Prim.Native.Nat.{_+_, _-_, _≤_};
+ghost use lib.ListN.{length, replicate};
+ghost use Rattle.records.specs.Edits.{insertAt, removeAt, replaceAt, zeroAt, movedUp, movedDown};
+
+// Writes the bytes `new` over those from byte `at` on.
+pub fn replace(b: &mut [u8], at: usize, new: &[u8])
+    requires { ⌜ at + length (now new) ≤ length (now b) ⌝ }
+    ensures { λ _. ⌜ now (b .exit) ≡ replaceAt at (now (new .entry)) (now (b .entry)) ⌝ }
+{
+    let mut i = 0;
+    while i < new.len() {
+        b[at + i] = new[i];
+        i += 1;
+    }
+}
+
+// Sets every byte to zero.
+pub fn clear(b: &mut [u8])
+    ensures { λ _. ⌜ now (b .exit) ≡ replicate (length (now (b .entry))) 0 ⌝ }
+{
+    let mut i = 0;
+    while i < b.len() {
+        b[i] = 0;
+        i += 1;
+    }
+}
+
+// Whether n bytes from byte `at` on are zero.
+pub fn is_zero(b: &[u8], at: usize, n: usize) -> bool
+    requires { ⌜ at + n ≤ length (now b) ⌝ }
+    ensures { λ r. ⌜ r ≡ zeroAt at n (now (b .entry)) ⌝ }
+{
+    let mut i = 0;
+    while i < n {
+        if b[at + i] != 0 {
+            return false;
+        }
+        i += 1;
+    }
+    true
+}
+
+// Moves the bytes from byte `at` on up by n, from the last one down.
+fn move_up(b: &mut [u8], at: usize, n: usize)
+    requires { ⌜ at + n ≤ length (now b) ⌝ }
+    ensures { λ _. ⌜ now (b .exit) ≡ movedUp n (at + n) (now (b .entry)) ⌝ }
+{
+    let stop = at + n;
+    let mut j = b.len();
+    while stop < j {
+        j -= 1;
+        b[j] = b[j - n];
+    }
+}
+
+// Moves the bytes after the n from byte `at` on down by n, from the first one up.
+fn move_down(b: &mut [u8], at: usize, n: usize)
+    requires { ⌜ at + n ≤ length (now b) ⌝ }
+    ensures { λ _. ⌜ now (b .exit) ≡ movedDown at n (length (now (b .entry)) - n) (now (b .entry)) ⌝ }
+{
+    let stop = b.len() - n;
+    let mut j = at;
+    while j < stop {
+        b[j] = b[j + n];
+        j += 1;
+    }
+}
+
+// Puts the bytes `new` in at byte `at`. What stood from there on moves up by their length, and as many bytes at the end are lost.
+pub fn insert(b: &mut [u8], at: usize, new: &[u8])
+    requires { ⌜ at + length (now new) ≤ length (now b) ⌝ }
+    ensures { λ _. ⌜ now (b .exit) ≡ insertAt at (now (new .entry)) (now (b .entry)) ⌝ }
+{
+    move_up(b, at, new.len());
+    replace(b, at, new);
+}
+
+// Takes n bytes out from byte `at` on. What stood after them moves down by n, and n zeros come at the end.
+pub fn remove(b: &mut [u8], at: usize, n: usize)
+    requires { ⌜ at + n ≤ length (now b) ⌝ }
+    ensures { λ _. ⌜ now (b .exit) ≡ removeAt at n (now (b .entry)) ⌝ }
+{
+    move_down(b, at, n);
+    let end = b.len() - n;
+    clear(&mut b[end..]);
+}
