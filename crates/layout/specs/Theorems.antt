@@ -11,8 +11,8 @@ use Rattle.model.specs.WellFormed.{WellFormed}
 use Rattle.model.specs.Format.{bytesMachine}
 use Rattle.model.specs.History.{Machine, stateAfter}
 use Rattle.model.specs.Balance.{EveryHistoryBalances}
-use Rattle.ledger.specs.Layout.{ledgerSize, wellFormed, ledgerOf, bytesOf}
-use Rattle.ledger.specs.PackedLedger.{packedLayout, packedLedger}
+use Rattle.layout.specs.Layout.{ledgerSize, wellFormed, ledgerOf, bytesOf}
+use Rattle.layout.specs.PackedLedger.{packedLayout, packedLedger}
 
 -- the machine on the 18,760 bytes: for any bytes and any call of a history, the bytes left and the answer
 abbrev pub packedMachine : Machine

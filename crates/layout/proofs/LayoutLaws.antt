@@ -20,7 +20,7 @@ use Rattle.model.specs.declared.Row.{Row}
 use Rattle.model.specs.Contracts.{Contracts}
 use Rattle.model.specs.Rules.{Rules}
 use Rattle.model.specs.WellFormed.{RowOk}
-use Rattle.ledger.specs.Layout.{Layout, rowCount, rowTests, rowOk, comesBefore, contractsFrom, rowsFrom, ledgerSize, claimsIn, penceIn, contractsIn, rowSlots, contractTest, rowTest, wellFormedTests, wellFormed}
+use Rattle.layout.specs.Layout.{Layout, rowCount, rowTests, rowOk, comesBefore, contractsFrom, rowsFrom, ledgerSize, claimsIn, penceIn, contractsIn, rowSlots, contractTest, rowTest, wellFormedTests, wellFormed}
 
 pub record LayoutLaws (R : Rules) (L : Layout) : Type 0 where
   -- the header's three fields hold what a well-formed ledger has, and no more

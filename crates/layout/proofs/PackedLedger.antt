@@ -21,11 +21,11 @@ use Rattle.model.proofs.Codes.{fuel-code, kind-code, kind-days, class-code, cla
 use Rattle.model.proofs.AcceptedBill.{span-days, kind-low, days-low, effective-low}
 use Rattle.model.proofs.Document01.{contract-test, bill-test, document01-laws}
 use Rattle.model.proofs.BytesBalance.{bytes-balance, bytes-well-formed}
-use Rattle.ledger.specs.Layout.{rowTest, contractsFrom, rowsFrom, ledgerSize}
-use Rattle.ledger.specs.PackedLedger.{contractKind, rangesOf, rowKind, packedLayout, packedLedger}
-use Rattle.ledger.specs.Theorems.{PackedSize, RoundTrips, PackedHistoriesBalance, NumberTwoMeetsNoCall}
-use Rattle.ledger.proofs.LayoutLaws.{LayoutLaws, row-facts}
-use Rattle.ledger.proofs.RoundTrips.{listed-elements, format-laws, unpacked-packed, repacked, well-formed-exactly}
+use Rattle.layout.specs.Layout.{rowTest, contractsFrom, rowsFrom, ledgerSize}
+use Rattle.layout.specs.PackedLedger.{contractKind, rangesOf, rowKind, packedLayout, packedLedger}
+use Rattle.layout.specs.Theorems.{PackedSize, RoundTrips, PackedHistoriesBalance, NumberTwoMeetsNoCall}
+use Rattle.layout.proofs.LayoutLaws.{LayoutLaws, row-facts}
+use Rattle.layout.proofs.RoundTrips.{listed-elements, format-laws, unpacked-packed, repacked, well-formed-exactly}
 
 pub packed-size : PackedSize
 unfolding ledgerSize rowsFrom contractsFrom size

@@ -9,7 +9,7 @@ use Rattle.model.specs.declared.Row.{Row}
 use Rattle.model.specs.Codes.{fuelOf, fuelCode, kindOf, kindCode, priceFixDay, entryDay, certificateOf, classCode, effectiveDay}
 use Rattle.model.specs.Document01.{document01, contractRanges}
 use Rattle.model.specs.Format.{Format}
-use Rattle.ledger.specs.Layout.{Layout, format}
+use Rattle.layout.specs.Layout.{Layout, format}
 
 -- after the bit open: fuel 1, kind 2, price-fix day 10, entry day 10, class 2, effective day 10, zeros 4
 abbrev pub contractKind : Kind Contract

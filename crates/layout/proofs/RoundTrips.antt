@@ -34,9 +34,9 @@ use Rattle.model.specs.WellFormed.{RowOk, WellFormed}
 use Rattle.model.specs.Format.{FormatLaws}
 use Rattle.model.proofs.RulesLaws.{RulesLaws}
 use Rattle.model.proofs.RowOrder.{Span}
-use Rattle.ledger.specs.Layout.{Layout, rowCount, rowOk, comesBefore, contractsFrom, rowsFrom, ledgerSize, territoryIn, claimsIn, penceIn, contractSlots, contractsIn, rowSlots, contractTest, rowTest, wellFormed, ledgerOf, headerBytes, contractBytes, rowBytes, bytesOf, format}
-use Rattle.ledger.proofs.Order.{pairs-apart, apart-pairs}
-use Rattle.ledger.proofs.LayoutLaws.{LayoutLaws, row-facts, row-test, Tested, tested, tests-passed}
+use Rattle.layout.specs.Layout.{Layout, rowCount, rowOk, comesBefore, contractsFrom, rowsFrom, ledgerSize, territoryIn, claimsIn, penceIn, contractSlots, contractsIn, rowSlots, contractTest, rowTest, wellFormed, ledgerOf, headerBytes, contractBytes, rowBytes, bytesOf, format}
+use Rattle.layout.proofs.Order.{pairs-apart, apart-pairs}
+use Rattle.layout.proofs.LayoutLaws.{LayoutLaws, row-facts, row-test, Tested, tested, tests-passed}
 
 -- ---- slots by number, and the records that pass
 

@@ -14,7 +14,7 @@ use Rattle.model.specs.Calls.{sharing}
 use Rattle.model.specs.Ledger.{sortsAfter}
 use Rattle.model.specs.WellFormed.{before, Apart}
 use Rattle.model.proofs.RowOrder.{Span, right-of}
-use Rattle.ledger.specs.Layout.{comesBefore}
+use Rattle.layout.specs.Layout.{comesBefore}
 
 or-left : (a b : Bool) → a ≡ true → a || b ≡ true
 or-left a b e = rw e
