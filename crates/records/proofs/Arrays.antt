@@ -5,9 +5,8 @@ use mathlib.Core.List.{List, [], _∷_, _++_, map, append-assoc, append-nil}
 use mathlib.Core.Option.{Option, none, some}
 use Prim.Native.Nat.{ℕ, zero, suc, _+_, _-_, _*_, _<_, _≤_}
 use native.Mathlib.Omega.{arith}
-use native.Mathlib.Nat.{le-of-eq}
-use lib.ListN.{length, take, drop, getD, set, replicate, length-append, length-drop, length-map, length-set, take-append-drop}
-use lib.Seq.{length-take-le, take-all, take-at, drop-at, drop-drop, drop-cons, set-split, split-at, take-append-le, drop-append-le}
+use lib.ListN.{length, take, drop, getD, set, replicate, length-append, length-drop, length-map, take-append-drop}
+use lib.Seq.{length-take-le, take-at, drop-at, drop-drop, set-split, split-at}
 use Rattle.records.specs.Pack.{size, WholeBytes}
 use Rattle.records.specs.Slots.{Kind, whole, slotOut, slotBytes, arrayOut}
 use Rattle.records.specs.Places.{places, inserted, removed}
@@ -43,7 +42,8 @@ replace-pieces q x d new i hq hx =
     (sym (drop-drop (length new) i (q ++ (x ++ d))) ∙ ap (drop (length new)) (drop-at q (x ++ d) i hq) ∙ drop-at x d (length new) (sym hx))
 
 -- a part of the bytes, with h before it and r after it, is edited
-pub part-pieces : (h a r : List ℕ) (f : List ℕ → List ℕ) (from to : ℕ) → length h ≡ from → from + length a ≡ to → onPart from to f (h ++ (a ++ r)) ≡ h ++ (f a ++ r)
+pub part-pieces : (h a r : List ℕ) (f : List ℕ → List ℕ) (from to : ℕ) → length h ≡ from → from + length a ≡ to
+    → onPart from to f (h ++ (a ++ r)) ≡ h ++ (f a ++ r)
 unfolding onPart
 part-pieces h a r f from to hh ha =
     let B : List ℕ = h ++ (a ++ r) in

@@ -1,18 +1,18 @@
--- Bytes put in, taken out and written over: lengths, a part lent and edited, and the steps of the loops that move bytes, each over
--- any number of bytes at a time. Assumes nothing.
-use mathlib.Core.Path.{_≡_, refl, sym, ap, ap₂, _∙_}
+-- Bytes put in, taken out and written over: their lengths, a part that is lent and edited, and the steps of the loops that copy,
+-- write, clear and test bytes. Assumes nothing.
+use mathlib.Core.Path.{_≡_, sym, ap, ap₂, _∙_}
 use mathlib.Core.Bool.{true, false}
-use mathlib.Core.List.{List, [], _∷_, _++_, append-assoc, append-nil}
+use mathlib.Core.List.{List, _∷_, _++_, append-assoc, append-nil}
 use Prim.Native.Nat.{ℕ, _+_, _-_, _≤_, _<_}
 use native.Mathlib.Numerals.{add-one}
 use native.Mathlib.Omega.{arith}
 use borrow.Rule.Slice.PartMut.{midOf, putMid, post-is}
 use lib.Dec.{eqb}
-use lib.ListN.{length, take, drop, getD, set, replicate, length-append, length-drop, length-replicate, take-append-drop}
-use lib.Seq.{length-take-le, take-all, take-at, drop-at, take-take, take-add, drop-drop, drop-cons, drop-length, take-append-le, drop-append-le, set-split, take-length, getD-take, getD-drop, paste, paste-suc}
+use lib.ListN.{length, take, drop, getD, set, replicate, length-append, length-drop, length-replicate, take-append-drop, List·getD-append}
+use lib.Seq.{length-take-le, take-all, take-at, drop-at, set-at, take-take, take-suc, take-length, drop-cons, drop-length, append-snoc, take-append-le, getD-take, getD-drop, paste, paste-suc, drop-paste}
 use Rattle.basics.proofs.Tests.{yes-eq, no-eq}
-use Rattle.records.specs.Edits.{insertAt, removeAt, replaceAt, zeroAt, onPart, movedUp, movedDown}
-use Rattle.records.proofs.Lists.{at-every, fails-at}
+use Rattle.records.specs.Edits.{insertAt, removeAt, replaceAt, zeroAt, onPart, copied}
+use Rattle.records.proofs.Lists.{at-every-map, fails-every-map}
 
 -- ---- lengths
 
@@ -31,147 +31,106 @@ length-removeAt at n b h = simp (length-append, length-drop, length-replicate) (
 
 -- ---- parts of bytes
 
-part-left : (xs ys : List ℕ) (f n : ℕ) → f + n ≤ length xs → take n (drop f (xs ++ ys)) ≡ take n (drop f xs)
-part-left xs ys f n h =
-    ap (take n) (drop-append-le f xs ys (omega arith)) ∙ take-append-le n (drop f xs) ys (omega (arith, length-drop f xs))
-
-part-of-take : (b : List ℕ) (m f n : ℕ) → f + n ≤ m → m ≤ length b → take n (drop f (take m b)) ≡ take n (drop f b)
-part-of-take b m f n h l =
-    sym (part-left (take m b) (drop m b) f n (omega (arith, length-take-le m b l))) ∙ ap (λ (x : List ℕ). take n (drop f x)) (take-append-drop m b)
-
 -- what the loan of a part leaves
-pub part-lent : (from to : ℕ) (f : List ℕ → List ℕ) (b x : List ℕ) → from ≤ to → x ≡ f (midOf from (to - from) b) → putMid from (to - from) b x ≡ onPart from to f b
+pub part-lent : (from to : ℕ) (f : List ℕ → List ℕ) (b x : List ℕ) → from ≤ to → x ≡ f (midOf from (to - from) b)
+    → putMid from (to - from) b x ≡ onPart from to f b
 unfolding onPart
 part-lent from to f b x h e = ap₂ (λ (y z : List ℕ). take from b ++ (y ++ z)) e (post-is from to b h)
 
--- one byte stored is one byte written over
-pub set-copy : (d : List ℕ) (to from : ℕ) → to < length d → from < length d → set d to (getD d from 0) ≡ replaceAt to (take 1 (drop from d)) d
-unfolding replaceAt
-set-copy d to from h l =
-    let v : ℕ = getD d from 0 in
-    let one : take 1 (drop from d) ≡ v ∷ [] = ap (take 1) (drop-cons d from 0 l) in
-    set-split d to v h ∙ ap (λ (i : ℕ). take to d ++ (v ∷ drop i d)) (sym (add-one to))
-    ∙ sym (ap (λ (x : List ℕ). take to d ++ (x ++ drop (to + length x) d)) one)
+-- ---- bytes copied within bytes
 
--- ---- moved up
+-- the bytes after the next one are copied, and then it is
+copied-before : (b d : List ℕ) (q p m : ℕ) → d ≡ copied (q + 1) (p + 1) m b → q ≤ p → p + (m + 1) ≤ length b
+    → set d p (getD d q 0) ≡ copied q p (m + 1) b
+unfolding copied
+copied-before b d q p m e h l =
+    let v : ℕ = getD b q 0 in
+    let R : List ℕ = take m (drop (q + 1) b) ++ drop (p + 1 + m) b in
+    let F : List ℕ = take (p + 1) b in
+    let lF : length F ≡ p + 1 = length-take-le (p + 1) b (omega arith) in
+    let read : getD d q 0 ≡ v =
+    ap (λ (x : List ℕ). getD x q 0) e ∙ List·getD-append F R 0 q (omega arith) ∙ getD-take (p + 1) b q 0 (omega arith) in
+    let open-up : d ≡ take p b ++ (getD b p 0 ∷ R) =
+    e ∙ ap (λ (x : List ℕ). x ++ R) (ap (λ (k : ℕ). take k b) (add-one p) ∙ take-suc b p 0 (omega arith)) ∙ append-snoc (take p b) (getD b p 0) R in
+    let first : v ∷ take m (drop (q + 1) b) ≡ take (m + 1) (drop q b) =
+    ap (λ (k : ℕ). v ∷ take m (drop k b)) (add-one q)
+    ∙ sym (ap₂ (λ (k : ℕ) (x : List ℕ). take k x) (add-one m) (drop-cons b q 0 (omega arith))) in
+    let after : p + 1 + m ≡ p + (m + 1) = omega arith in
+    ap₂ (λ (x : List ℕ) (y : ℕ). set x p y) open-up read
+    ∙ set-at (take p b) (getD b p 0) R v p (length-take-le p b (omega arith))
+    ∙ ap₂ (λ (x : List ℕ) (k : ℕ). take p b ++ (x ++ drop k b)) first after
 
-pub movedUp-none : (n : ℕ) (b : List ℕ) → b ≡ movedUp n (length b) b
-unfolding movedUp
-movedUp-none n b =
-    let z : length b - length b ≡ 0 = omega arith in
-    sym (ap₂ (λ (x : List ℕ) (i : ℕ). x ++ take i (drop (length b - n) b)) (take-length b) z ∙ append-nil b)
+-- the same by the number of the byte, as a loop goes down to it
+pub copied-up : (b d : List ℕ) (from to n i : ℕ) → d ≡ copied (from + i) (to + i) (n - i) b → 0 < i → i ≤ n → from ≤ to → to + n ≤ length b
+    → set d (to + (i - 1)) (getD d (from + (i - 1)) 0) ≡ copied (from + (i - 1)) (to + (i - 1)) (n - (i - 1)) b
+copied-up b d from to n i e h l m o =
+    let q : from + i ≡ from + (i - 1) + 1 = omega arith in
+    let p : to + i ≡ to + (i - 1) + 1 = omega arith in
+    let k : n - i + 1 ≡ n - (i - 1) = omega arith in
+    copied-before b d (from + (i - 1)) (to + (i - 1)) (n - i) (e ∙ ap₂ (λ (x y : ℕ). copied x y (n - i) b) q p) (omega arith) (omega arith)
+    ∙ ap (λ (x : ℕ). copied (from + (i - 1)) (to + (i - 1)) x b) k
 
--- m bytes more
-pub movedUp-more : (b d : List ℕ) (n to m : ℕ) → d ≡ movedUp n (to + m) b → n ≤ to → to + m ≤ length b
-    → replaceAt to (take m (drop (to - n) d)) d ≡ movedUp n to b
-unfolding movedUp replaceAt
-movedUp-more b d n to m e h l =
-    let F : List ℕ = take (to + m) b in
-    let T : List ℕ = take (length b - (to + m)) (drop (to + m - n) b) in
-    let X : List ℕ = drop (to - n) b in
-    let lF : length F ≡ to + m = length-take-le (to + m) b l in
-    let front : take to d ≡ take to b = ap (take to) e ∙ take-append-le to F T (omega arith) ∙ take-take to (to + m) b (omega arith) in
-    let moved : take m (drop (to - n) d) ≡ take m X =
-    ap (λ (x : List ℕ). take m (drop (to - n) x)) e ∙ part-left F T (to - n) m (omega arith) ∙ part-of-take b (to + m) (to - n) m (omega arith) l in
-    let many : length (take m X) ≡ m = length-take-le m X (omega (arith, length-drop (to - n) b)) in
-    let rest : drop (to + m) d ≡ T = ap (drop (to + m)) e ∙ drop-at F T (to + m) lF in
-    let i : to - n + m ≡ to + m - n = omega arith in
-    let j : m + (length b - (to + m)) ≡ length b - to = omega arith in
-    ap₂ (λ (x y : List ℕ). x ++ (y ++ drop (to + length y) d)) front moved
-    ∙ ap (λ (k : ℕ). take to b ++ (take m X ++ drop (to + k) d)) many
-    ∙ ap (λ (x : List ℕ). take to b ++ (take m X ++ x)) (rest ∙ ap (take (length b - (to + m))) (sym (drop-drop m (to - n) b ∙ ap (λ (k : ℕ). drop k b) i)))
-    ∙ ap (λ (x : List ℕ). take to b ++ x) (sym (take-add m (length b - (to + m)) X) ∙ ap (λ (k : ℕ). take k X) j)
+-- the bytes before the next one are copied, and then it is
+pub copied-down : (b d : List ℕ) (q p m : ℕ) → d ≡ copied q p m b → p ≤ q → q + m < length b
+    → set d (p + m) (getD d (q + m) 0) ≡ copied q p (m + 1) b
+unfolding copied
+copied-down b d q p m e h l =
+    let X : List ℕ = drop q b in
+    let lX : m < length X = omega (arith, length-drop q b) in
+    let pasted : d ≡ paste b p X m = e ∙ sym (append-assoc (take p b) (take m X) (drop (p + m) b)) in
+    let i : q + m ≡ p + m + (q - p) = omega arith in
+    let read : getD d (q + m) 0 ≡ getD X m 0 =
+    ap₂ (λ (x : List ℕ) (k : ℕ). getD x k 0) pasted i ∙ sym (getD-drop (p + m) (paste b p X m) (q - p) 0)
+    ∙ ap (λ (x : List ℕ). getD x (q - p) 0) (drop-paste b p X m (omega arith) (omega arith))
+    ∙ getD-drop (p + m) b (q - p) 0 ∙ ap (λ (k : ℕ). getD b k 0) (sym i) ∙ sym (getD-drop q b m 0) in
+    ap₂ (λ (x : List ℕ) (v : ℕ). set x (p + m) v) pasted read ∙ paste-suc b p X m 0 (omega arith) lX
+    ∙ ap (paste b p X) (sym (add-one m)) ∙ append-assoc (take p b) (take (m + 1) X) (drop (p + (m + 1)) b)
 
--- one byte more
-pub movedUp-byte : (b d : List ℕ) (n j : ℕ) → d ≡ movedUp n j b → n < j → j ≤ length b → length d ≡ length b
-    → set d (j - 1) (getD d (j - 1 - n) 0) ≡ movedUp n (j - 1) b
-movedUp-byte b d n j e h l ld =
-    let i : j ≡ j - 1 + 1 = omega arith in
-    set-copy d (j - 1) (j - 1 - n) (omega arith) (omega arith)
-    ∙ movedUp-more b d n (j - 1) 1 (e ∙ ap (λ (k : ℕ). movedUp n k b) i) (omega arith) (omega arith)
+pub copied-none : (b : List ℕ) (q p : ℕ) → b ≡ copied q p 0 b
+unfolding copied
+copied-none b q p = let z : p + 0 ≡ p = omega arith in sym (ap (λ (k : ℕ). take p b ++ drop k b) z ∙ take-append-drop p b)
 
--- what was moved up makes room for as many bytes
-pub movedUp-insert : (b d c new : List ℕ) (at : ℕ) → at + length new ≤ length b → d ≡ movedUp (length new) (at + length new) b → c ≡ replaceAt at new d
-    → c ≡ insertAt at new b
-unfolding insertAt movedUp replaceAt
-movedUp-insert b d c new at h e f =
-    let n : ℕ = length new in
-    let F : List ℕ = take (at + n) b in
-    let T : List ℕ = take (length b - (at + n)) (drop (at + n - n) b) in
-    let lF : length F ≡ at + n = length-take-le (at + n) b h in
-    let front : take at d ≡ take at b = ap (take at) e ∙ take-append-le at F T (omega arith) ∙ take-take at (at + n) b (omega arith) in
-    let i : length b - (at + n) ≡ length b - n - at = omega arith in
-    let j : at + n - n ≡ at = omega arith in
-    let rest : drop (at + n) d ≡ take (length b - n - at) (drop at b) =
-    ap (drop (at + n)) e ∙ drop-at F T (at + n) lF ∙ ap₂ (λ (k m : ℕ). take k (drop m b)) i j in
-    f ∙ ap₂ (λ (x y : List ℕ). x ++ (new ++ y)) front rest
+-- the n bytes at the end, after those that begin d, are cleared
+end-cleared : (d P : List ℕ) (to n : ℕ) → to + n ≡ length d → take to d ≡ P → onPart to (length d) (λ x. replicate (length x) 0) d ≡ P ++ replicate n 0
+unfolding onPart
+end-cleared d P to n h e =
+    let m : length d - to ≡ n = omega arith in
+    let many : length (take (length d - to) (drop to d)) ≡ n = length-take-le (length d - to) (drop to d) (omega (arith, length-drop to d)) ∙ m in
+    ap₂ (λ (x : List ℕ) (k : ℕ). x ++ (replicate k 0 ++ drop (length d) d)) e many
+    ∙ ap (λ (r : List ℕ). P ++ (replicate n 0 ++ r)) (drop-length d) ∙ ap (λ (x : List ℕ). P ++ x) (append-nil (replicate n 0))
 
--- ---- moved down
+module _ (b d : List ℕ) (at n kept : ℕ) (fits : at + n + kept ≡ length b) where
+  -- the bytes from `at` on are copied up by n, and `new` is written over the gap
+  pub copied-insert : (c new : List ℕ) → length new ≡ n → d ≡ copied at (at + n) kept b → c ≡ replaceAt at new d → c ≡ insertAt at new b
+  unfolding copied replaceAt insertAt
+  copied-insert c new ln e f =
+      let F : List ℕ = take (at + n) b in
+      let T : List ℕ = take kept (drop at b) ++ drop (at + n + kept) b in
+      let lF : length F ≡ at + n = length-take-le (at + n) b (omega arith) in
+      let front : take at d ≡ take at b = ap (take at) e ∙ take-append-le at F T (omega arith) ∙ take-take at (at + n) b (omega arith) in
+      let k : kept ≡ length b - length new - at = omega arith in
+      let rest : drop (at + length new) d ≡ take (length b - length new - at) (drop at b) =
+      ap₂ (λ (m : ℕ) (x : List ℕ). drop (at + m) x) ln e ∙ drop-at F T (at + n) lF
+      ∙ ap (λ (m : ℕ). take kept (drop at b) ++ drop m b) fits ∙ ap (λ (x : List ℕ). take kept (drop at b) ++ x) (drop-length b)
+      ∙ append-nil (take kept (drop at b)) ∙ ap (λ (m : ℕ). take m (drop at b)) k in
+      f ∙ ap₂ (λ (x y : List ℕ). x ++ (new ++ y)) front rest
 
-pub movedDown-none : (at n : ℕ) (b : List ℕ) → b ≡ movedDown at n at b
-unfolding movedDown
-movedDown-none at n b =
-    let z : at - at ≡ 0 = omega arith in
-    sym (ap (λ (i : ℕ). take at b ++ (take i (drop (at + n) b) ++ drop at b)) z ∙ take-append-drop at b)
-
-length-moved : (at n to : ℕ) (b : List ℕ) → at ≤ to → to + n ≤ length b → length (take at b ++ take (to - at) (drop (at + n) b)) ≡ to
-length-moved at n to b h l =
-    simp length-append (omega (arith, length-take-le at b (omega arith), length-take-le (to - at) (drop (at + n) b) (omega (arith, length-drop (at + n) b))))
-
--- m bytes more
-pub movedDown-more : (b d : List ℕ) (at n to m : ℕ) → d ≡ movedDown at n to b → at ≤ to → to + m + n ≤ length b
-    → replaceAt to (take m (drop (to + n) d)) d ≡ movedDown at n (to + m) b
-unfolding movedDown replaceAt
-movedDown-more b d at n to m e h l =
-    let X : List ℕ = drop (at + n) b in
-    let P : List ℕ = take at b ++ take (to - at) X in
-    let lP : length P ≡ to = length-moved at n to b h (omega arith) in
-    let split : d ≡ P ++ drop to b = e ∙ sym (append-assoc (take at b) (take (to - at) X) (drop to b)) in
-    let front : take to d ≡ P = ap (take to) split ∙ take-at P (drop to b) to lP in
-    let rest : drop to d ≡ drop to b = ap (drop to) split ∙ drop-at P (drop to b) to lP in
-    let later : (i : ℕ) → drop (to + i) d ≡ drop (to + i) b = λ i. sym (drop-drop i to d) ∙ ap (drop i) rest ∙ drop-drop i to b in
-    let Y : List ℕ = drop (to + n) b in
-    let many : length (take m Y) ≡ m = length-take-le m Y (omega (arith, length-drop (to + n) b)) in
-    let i : at + n + (to - at) ≡ to + n = omega arith in
-    let j : to - at + m ≡ to + m - at = omega arith in
-    ap₂ (λ (x y : List ℕ). x ++ (take m y ++ drop (to + length (take m y)) d)) front (later n)
-    ∙ ap (λ (k : ℕ). P ++ (take m Y ++ drop (to + k) d)) many
-    ∙ ap (λ (x : List ℕ). P ++ (take m Y ++ x)) (later m)
-    ∙ regroup (take at b) (take (to - at) X) (take m Y) (drop (to + m) b)
-    ∙ ap (λ (x : List ℕ). take at b ++ (x ++ drop (to + m) b))
-    (ap (λ (x : List ℕ). take (to - at) X ++ take m x) (sym (drop-drop (to - at) (at + n) b ∙ ap (λ (k : ℕ). drop k b) i))
-    ∙ sym (take-add (to - at) m X) ∙ ap (λ (k : ℕ). take k X) j)
-  where
-    regroup : (p x y r : List ℕ) → (p ++ x) ++ (y ++ r) ≡ p ++ ((x ++ y) ++ r)
-    regroup p x y r = simp append-assoc
-
--- one byte more
-pub movedDown-byte : (b d : List ℕ) (at n j : ℕ) → d ≡ movedDown at n j b → at ≤ j → j + n < length b → length d ≡ length b
-    → set d j (getD d (j + n) 0) ≡ movedDown at n (j + 1) b
-movedDown-byte b d at n j e h l ld = set-copy d j (j + n) (omega arith) (omega arith) ∙ movedDown-more b d at n j 1 e h (omega arith)
-
--- what was moved down leaves n bytes at the end, which are cleared
-pub movedDown-remove : (b d : List ℕ) (at n : ℕ) → at + n ≤ length b → length d ≡ length b → d ≡ movedDown at n (length b - n) b
-    → onPart (length d - n) (length d) (λ x. replicate (length x) 0) d ≡ removeAt at n b
-unfolding removeAt movedDown onPart
-movedDown-remove b d at n h ld e =
-    let to : ℕ = length b - n in
-    let X : List ℕ = drop (at + n) b in
-    let P : List ℕ = take at b ++ take (to - at) X in
-    let front : take to d ≡ take at b ++ X =
-    ap (take to) (e ∙ sym (append-assoc (take at b) (take (to - at) X) (drop to b)))
-    ∙ take-at P (drop to b) to (length-moved at n to b (omega arith) (omega arith))
-    ∙ ap (λ (x : List ℕ). take at b ++ x) (take-all (to - at) X (omega (arith, length-drop (at + n) b))) in
-    let from : length d - n ≡ to = omega arith in
-    let many : length (take (length d - (length d - n)) (drop (length d - n) d)) ≡ n =
-    length-take-le (length d - (length d - n)) (drop (length d - n) d) (omega (arith, length-drop (length d - n) d)) ∙ omega arith in
-    ap (λ (k : ℕ). take (length d - n) d ++ (replicate k 0 ++ drop (length d) d)) many
-    ∙ ap₂ (λ (k : ℕ) (r : List ℕ). take k d ++ (replicate n 0 ++ r)) from (drop-length d)
-    ∙ ap₂ (λ (x y : List ℕ). x ++ y) front (append-nil (replicate n 0))
-    ∙ append-assoc (take at b) X (replicate n 0)
+  -- the bytes after the n at `at` are copied down by n, and the n at the end are cleared
+  pub copied-remove : length d ≡ length b → d ≡ copied (at + n) at kept b
+      → onPart (at + kept) (length d) (λ x. replicate (length x) 0) d ≡ removeAt at n b
+  unfolding copied removeAt
+  copied-remove ld e =
+      let X : List ℕ = drop (at + n) b in
+      let P : List ℕ = take at b ++ X in
+      let R : List ℕ = drop (at + kept) b in
+      let all : take kept X ≡ X = take-all kept X (omega (arith, length-drop (at + n) b)) in
+      let lP : length P ≡ at + kept = simp length-append (omega (arith, length-take-le at b (omega arith), length-drop (at + n) b)) in
+      let split : d ≡ P ++ R = e ∙ ap (λ (x : List ℕ). take at b ++ (x ++ R)) all ∙ sym (append-assoc (take at b) X R) in
+      end-cleared d P (at + kept) n (omega arith) (ap (take (at + kept)) split ∙ take-at P R (at + kept) lP) ∙ append-assoc (take at b) X (replicate n 0)
 
 -- ---- the loops that write, clear and test
 
+-- byte i of `new` is written after those before it
 pub paste-more : (b d : List ℕ) (at : ℕ) (new : List ℕ) (i : ℕ) → d ≡ paste b at new i → at + i < length b → i < length new
     → set d (at + i) (getD new i 0) ≡ paste b at new (i + 1)
 paste-more b d at new i e h l = rw (e, add-one) (paste-suc b at new i 0 h l)
@@ -195,13 +154,15 @@ module _ (b : List ℕ) (at n i : ℕ) (h : at + n ≤ length b) where
   tested : (k : ℕ) → k < n → getD (take n (drop at b)) k 0 ≡ getD b (at + k) 0
   tested k l = getD-take n (drop at b) k 0 l ∙ getD-drop at b k 0
 
+  -- each byte tested is zero
   pub zeroAt-yes : n ≤ i → ((k : ℕ) → k < i → getD b (at + k) 0 ≡ 0) → true ≡ zeroAt at n b
   unfolding zeroAt
   zeroAt-yes l z =
-      sym (at-every (λ x. eqb x 0) 0 (take n (drop at b))
+      sym (at-every-map (λ x. eqb x 0) 0 (take n (drop at b))
       (λ k m. let o : k < n = omega (arith, length-tested) in yes-eq _ 0 (tested k o ∙ z k (omega arith))))
 
+  -- one is not
   pub zeroAt-no : i < n → (getD b (at + i) 0 ≡ 0 → ⊥) → false ≡ zeroAt at n b
   unfolding zeroAt
   zeroAt-no l z =
-      sym (fails-at (λ x. eqb x 0) 0 (take n (drop at b)) i (omega (arith, length-tested)) (no-eq _ 0 (λ e. z (sym (tested i l) ∙ e))))
+      sym (fails-every-map (λ x. eqb x 0) 0 (take n (drop at b)) i (omega (arith, length-tested)) (no-eq _ 0 (λ e. z (sym (tested i l) ∙ e))))

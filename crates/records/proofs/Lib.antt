@@ -1,4 +1,7 @@
-pub mod Parts
+-- `Pack` has one record, `Slots` slots and arrays written and read again, `Zeros` free slots, `Arrays` arrays that are edited, `Edits`
+-- the bytes that the functions leave, `Places` records that come first, `Numbered` slots by number, `Pairs` and `Lists` tests.
+-- `Parts` has bytes cut into parts, and `Vectors` worked examples.
+mod Parts
 pub mod Pack
 pub mod Lists
 pub mod Slots
@@ -6,5 +9,6 @@ pub mod Zeros
 pub mod Pairs
 pub mod Numbered
 pub mod Places
-pub mod Arrays
 pub mod Edits
+pub mod Arrays
+mod Vectors

@@ -1,5 +1,5 @@
 -- Tests and facts of each element of a list, by elements and by numbers. Assumes nothing.
-use mathlib.Core.Path.{_≡_, refl, sym, ap₂, _∙_}
+use mathlib.Core.Path.{_≡_, refl, sym, _∙_}
 use mathlib.Core.Bool.{Bool, true, false, false≢true}
 use mathlib.Core.List.{List, [], _∷_, map}
 use Prim.Native.Nat.{ℕ, zero, suc, _<_}
@@ -20,31 +20,27 @@ module _ {A : Type 0} where
   all-true P f [] = tt
   all-true P f (x ∷ xs) = (f x, all-true P f xs)
 
-  pub map-same : (f : A → A) (xs : List A) → All (λ x. f x ≡ x) xs → map f xs ≡ xs
-  map-same f [] a = refl
-  map-same f (x ∷ xs) a = ap₂ (λ (y : A) (l : List A). y ∷ l) (a .0) (map-same f xs (a .1))
-
 module _ {A : Type 0} (p : A → Bool) where
-  pub all-every : (xs : List A) → All (λ x. p x ≡ true) xs → every (map p xs) ≡ true
-  all-every [] a = refl
-  all-every (x ∷ xs) a = and-yes _ _ (a .0) (all-every xs (a .1))
+  pub all-every-map : (xs : List A) → All (λ x. p x ≡ true) xs → every (map p xs) ≡ true
+  all-every-map [] a = refl
+  all-every-map (x ∷ xs) a = and-yes _ _ (a .0) (all-every-map xs (a .1))
 
-  pub every-all : (xs : List A) → every (map p xs) ≡ true → All (λ x. p x ≡ true) xs
-  every-all [] e = tt
-  every-all (x ∷ xs) e = (and-left (p x) _ e, every-all xs (and-right (p x) _ e))
+  pub every-map-all : (xs : List A) → every (map p xs) ≡ true → All (λ x. p x ≡ true) xs
+  every-map-all [] e = tt
+  every-map-all (x ∷ xs) e = (and-left (p x) _ e, every-map-all xs (and-right (p x) _ e))
 
   module _ (d : A) where
     -- each element passes, so that number i does
-    pub every-at : (xs : List A) → every (map p xs) ≡ true → (i : ℕ) → i < length xs → p (getD xs i d) ≡ true
-    every-at [] e i h = absurd (not-suc-le-zero h)
-    every-at (x ∷ xs) e zero h = and-left (p x) _ e
-    every-at (x ∷ xs) e (suc i) h = every-at xs (and-right (p x) _ e) i (le-of-suc-le-suc h)
+    pub every-map-at : (xs : List A) → every (map p xs) ≡ true → (i : ℕ) → i < length xs → p (getD xs i d) ≡ true
+    every-map-at [] e i h = absurd (not-suc-le-zero h)
+    every-map-at (x ∷ xs) e zero h = and-left (p x) _ e
+    every-map-at (x ∷ xs) e (suc i) h = every-map-at xs (and-right (p x) _ e) i (le-of-suc-le-suc h)
 
     -- each number passes
-    pub at-every : (xs : List A) → ((i : ℕ) → i < length xs → p (getD xs i d) ≡ true) → every (map p xs) ≡ true
-    at-every [] f = refl
-    at-every (x ∷ xs) f = and-yes _ _ (f 0 (omega arith)) (at-every xs (λ i h. f (suc i) (omega arith)))
+    pub at-every-map : (xs : List A) → ((i : ℕ) → i < length xs → p (getD xs i d) ≡ true) → every (map p xs) ≡ true
+    at-every-map [] f = refl
+    at-every-map (x ∷ xs) f = and-yes _ _ (f 0 (omega arith)) (at-every-map xs (λ i h. f (suc i) (omega arith)))
 
     -- number i fails
-    pub fails-at : (xs : List A) (i : ℕ) → i < length xs → p (getD xs i d) ≡ false → every (map p xs) ≡ false
-    fails-at xs i h e = either (every (map p xs)) (λ t. absurd (false≢true (sym e ∙ every-at xs t i h))) (λ t. t)
+    pub fails-every-map : (xs : List A) (i : ℕ) → i < length xs → p (getD xs i d) ≡ false → every (map p xs) ≡ false
+    fails-every-map xs i h e = either (every (map p xs)) (λ t. absurd (false≢true (sym e ∙ every-map-at xs t i h))) (λ t. t)

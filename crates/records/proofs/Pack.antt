@@ -38,7 +38,8 @@ pack-unpack ws b e h l =
 
 -- ---- a record within other bytes
 
-fields-within : (b : List ℕ) (f n r : ℕ) (ws : List ℕ) → f + n ≤ length b → r + sum ws ≤ 8 * n → fields (take n (drop f b)) r ws ≡ fields b (8 * f + r) ws
+fields-within : (b : List ℕ) (f n r : ℕ) (ws : List ℕ) → f + n ≤ length b → r + sum ws ≤ 8 * n
+    → fields (take n (drop f b)) r ws ≡ fields b (8 * f + r) ws
 unfolding fields
 fields-within b f n r [] h i = refl
 fields-within b f n r (w ∷ ws) h i =

@@ -1,6 +1,6 @@
 -- Records that come first in their array: the slots of records and the records of slots, their order, and their tests. Assumes nothing.
-use mathlib.Core.Path.{_≡_, refl, sym, ap, ap₂, _∙_}
-use mathlib.Core.Bool.{Bool, true, false, _&&_, false≢true}
+use mathlib.Core.Path.{_≡_, refl, ap, ap₂, _∙_}
+use mathlib.Core.Bool.{Bool, true, _&&_, false≢true}
 use mathlib.Core.List.{List, [], _∷_, _++_, map}
 use mathlib.Core.Option.{Option, none, some}
 use Prim.Native.Nat.{ℕ, zero, suc, _+_, _-_, _<_, _≤_}
@@ -119,7 +119,8 @@ module _ {A : Type 0} (before : A → A → Bool) where
       none-first zero = refl
       none-first (suc m) = none-first m
 
-      one-first : (x : A) (ys : List A) (m : ℕ) → every (map (before x) ys) ≡ true → every (map (inOrder before (some x)) (map some ys ++ replicate m none)) ≡ true
+      one-first : (x : A) (ys : List A) (m : ℕ) → every (map (before x) ys) ≡ true
+          → every (map (inOrder before (some x)) (map some ys ++ replicate m none)) ≡ true
       one-first x [] zero f = refl
       one-first x [] (suc m) f = one-first x [] m f
       one-first x (y ∷ ys) m f = and-yes _ _ (and-left (before x y) _ f) (one-first x ys m (and-right (before x y) _ f))
@@ -142,7 +143,8 @@ module _ {A : Type 0} (before : A → A → Bool) where
     on-records (none ∷ os) a = (tt, on-records os a)
     on-records (some x ∷ os) a = (a .0, on-records os (a .1))
 
-    inOrder-trans : (x y z : Option A) → OnRecord x → OnRecord y → OnRecord z → inOrder before x y ≡ true → inOrder before y z ≡ true → inOrder before x z ≡ true
+    inOrder-trans : (x y z : Option A) → OnRecord x → OnRecord y → OnRecord z → inOrder before x y ≡ true
+        → inOrder before y z ≡ true → inOrder before x z ≡ true
     unfolding inOrder OnRecord
     inOrder-trans x y none p q r e f = refl
     inOrder-trans x none (some z) p q r e f = absurd (false≢true f)

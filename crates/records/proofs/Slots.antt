@@ -1,6 +1,6 @@
 -- Slots and arrays of slots, written and read again, for any kind of record. Assumes nothing.
 use mathlib.Core.Path.{_≡_, refl, sym, ap, ap₂, _∙_, subst}
-use mathlib.Core.Bool.{Bool, true, false, cond, _&&_}
+use mathlib.Core.Bool.{Bool, true, false, cond}
 use mathlib.Core.List.{List, [], _∷_, _++_, map}
 use mathlib.Core.Option.{Option, none, some}
 use Prim.Native.Nat.{ℕ, zero, suc, _+_, _*_, _^_, _≤_, _<_}
@@ -19,7 +19,7 @@ use Rattle.records.specs.Pack.{size, WholeBytes, pack, unpack, cut, join
 use Rattle.records.specs.Slots.{allZero, blank, Kind, whole, recordFields, slotOut, slotIn, slotOk, passes, slots, arrayIn, slotBytes, arrayOut, KindOk}
 use Rattle.records.proofs.Parts.{Parts, length-cut, parts-cut, are-cut, length-join, are-join, join-append, join-cut, cut-join}
 use Rattle.records.proofs.Pack.{length-pack, are-pack, fit-unpack, unpack-pack, pack-unpack, unpack-within}
-use Rattle.records.proofs.Lists.{all-of-map, all-true}
+use Rattle.records.proofs.Lists.{all-of-map, all-true, every-map-at, at-every-map, fails-every-map}
 
 -- ---- lists of values
 
@@ -63,13 +63,19 @@ zero-blank (w ∷ ws) (x ∷ v) f e =
 -- ---- one slot
 
 -- what a kind owes for a test it owes for a narrower one
-pub narrower : {A : Type 0} (k : Kind A) (test test′ : List ℕ → Bool) → ((v : List ℕ) → test′ v ≡ true → test v ≡ true) → KindOk k test → KindOk k test′
+pub narrower : {A : Type 0} (k : Kind A) (test test′ : List ℕ → Bool) → ((v : List ℕ) → test′ v ≡ true → test v ≡ true)
+    → KindOk k test → KindOk k test′
 narrower k test test′ h ok = record {
   aligned = ok .aligned;
   of-values = λ a e. ok .of-values a (h (k .values a) e);
   values-of = λ v l e. ok .values-of v l (h v e);
   fits = λ a e. ok .fits a (h (k .values a) e);
 }
+
+-- a slot's numbers have the record's fields, as many as there are widths
+length-fields : {A : Type 0} (k : Kind A) (x : ℕ) (v : List ℕ) → Fit (whole k) (x ∷ v) → length (recordFields k (x ∷ v)) ≡ length (k .widths)
+length-fields k x v f =
+    length-take-le (length (k .widths)) v (omega (arith, fit-length (k .widths ++ k .zeros) v (f .1), length-append (k .widths) (k .zeros)))
 
 module _ {A : Type 0} (k : Kind A) (test : List ℕ → Bool) (ok : KindOk k test) where
   -- the fields of a record that is there
@@ -96,9 +102,6 @@ module _ {A : Type 0} (k : Kind A) (test : List ℕ → Bool) (ok : KindOk k tes
       n : ℕ
       n = length (k .widths)
 
-      many : length (take n v) ≡ n
-      many = length-take-le n v (omega (arith, fit-length (k .widths ++ k .zeros) v (f .1), length-append (k .widths) (k .zeros)))
-
       last : blank (k .zeros) ≡ drop n v
       last = zero-blank (k .zeros) (drop n v) (fit-drop (k .widths) (k .zeros) v (f .1)) (and-left (allZero (drop n v)) _ e)
 
@@ -115,7 +118,7 @@ module _ {A : Type 0} (k : Kind A) (test : List ℕ → Bool) (ok : KindOk k tes
           let flag : 1 ≡ x = omega arith in
           let passed : test (take n v) ≡ true = subst (λ (b : Bool). cond b (allZero (x ∷ v)) (test (take n v)) ≡ true) c rest in
           rw c (ap₂ (λ (y : ℕ) (l : List ℕ). y ∷ l) flag
-          (ap₂ (λ (l r : List ℕ). l ++ r) (ok .values-of (take n v) many passed) last ∙ take-append-drop n v))
+          (ap₂ (λ (l r : List ℕ). l ++ r) (ok .values-of (take n v) (length-fields k x v f) passed) last ∙ take-append-drop n v))
 
   pub ok-slotOut : (o : Option A) → passes k test o ≡ true → slotOk k test (slotOut k o) ≡ true
   unfolding slotOut slotOk
@@ -135,12 +138,9 @@ module _ {A : Type 0} (k : Kind A) (test : List ℕ → Bool) (ok : KindOk k tes
       n : ℕ
       n = length (k .widths)
 
-      many : length (take n v) ≡ n
-      many = length-take-le n v (omega (arith, fit-length (k .widths ++ k .zeros) v (f .1), length-append (k .widths) (k .zeros)))
-
       go : (c : Bool) → cond c (allZero (x ∷ v)) (test (take n v)) ≡ true → passes k test (cond c none (some (k .of (take n v)))) ≡ true
       go true h = refl
-      go false h = ap test (ok .values-of (take n v) many h) ∙ h
+      go false h = ap test (ok .values-of (take n v) (length-fields k x v f) h) ∙ h
 
 -- ---- arrays
 
@@ -211,7 +211,8 @@ module _ {A : Type 0} (k : Kind A) (test : List ℕ → Bool) (ok : KindOk k tes
       go [] p = refl
       go (x ∷ xs) p = and-yes _ _ (ok-slotOut k test ok x (and-left (passes k test x) _ p)) (go xs (and-right (passes k test x) _ p))
 
-  pub passes-arrayIn : (n : ℕ) (b : List ℕ) → every (map (slotOk k test) (slots k n b)) ≡ true → every (map (passes k test) (arrayIn k n b)) ≡ true
+  pub passes-arrayIn : (n : ℕ) (b : List ℕ) → every (map (slotOk k test) (slots k n b)) ≡ true
+      → every (map (passes k test) (arrayIn k n b)) ≡ true
   unfolding arrayIn slots
   passes-arrayIn n b h = go (cut (size (whole k)) n b) h
     where
@@ -264,3 +265,18 @@ module _ {A : Type 0} (k : Kind A) (e : WholeBytes (whole k)) where
       go [] j m = absurd (not-suc-le-zero m)
       go (v ∷ vs) zero m = refl
       go (v ∷ vs) (suc j) m = go vs j (le-of-suc-le-suc m)
+
+  -- a test of each of the n slots from byte f on, by their numbers
+  module _ (p : List ℕ → Bool) (n f : ℕ) (b : List ℕ) (h : f + n * size (whole k) ≤ length b) where
+    at-slot : (i : ℕ) → i < n → p (getD (slots k n (drop f b)) i []) ≡ p (fields b (8 * (f + i * size (whole k))) (whole k))
+    at-slot i l = ap p (slot-at n i f b l h)
+
+    pub slots-every : ((i : ℕ) → i < n → p (fields b (8 * (f + i * size (whole k))) (whole k)) ≡ true) → every (map p (slots k n (drop f b))) ≡ true
+    slots-every t =
+        at-every-map p [] (slots k n (drop f b)) (λ i l. let m : i < n = omega (arith, length-slots k n (drop f b)) in at-slot i m ∙ t i m)
+
+    pub every-slots : every (map p (slots k n (drop f b))) ≡ true → (i : ℕ) → i < n → p (fields b (8 * (f + i * size (whole k))) (whole k)) ≡ true
+    every-slots t i l = sym (at-slot i l) ∙ every-map-at p [] (slots k n (drop f b)) t i (omega (arith, length-slots k n (drop f b)))
+
+    pub slots-fail : (i : ℕ) → i < n → p (fields b (8 * (f + i * size (whole k))) (whole k)) ≡ false → every (map p (slots k n (drop f b))) ≡ false
+    slots-fail i l t = fails-every-map p [] (slots k n (drop f b)) i (omega (arith, length-slots k n (drop f b))) (at-slot i l ∙ t)

@@ -25,10 +25,6 @@ zeroAt at n b = allZero (take n (drop at b))
 unfoldable pub onPart : ℕ → ℕ → (List ℕ → List ℕ) → List ℕ → List ℕ
 onPart from to f b = take from b ++ (f (take (to - from) (drop from b)) ++ drop to b)
 
--- the bytes from byte `to` on are those that stood n before them
-unfoldable pub movedUp : ℕ → ℕ → List ℕ → List ℕ
-movedUp n to b = take to b ++ take (length b - to) (drop (to - n) b)
-
--- the bytes from byte `at` up to byte `to` are those that stood n after them
-unfoldable pub movedDown : ℕ → ℕ → ℕ → List ℕ → List ℕ
-movedDown at n to b = take at b ++ (take (to - at) (drop (at + n) b) ++ drop to b)
+-- the n bytes from byte `from` on are copied to byte `to` on
+unfoldable pub copied : ℕ → ℕ → ℕ → List ℕ → List ℕ
+copied from to n b = take to b ++ (take n (drop from b) ++ drop (to + n) b)

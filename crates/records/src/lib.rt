@@ -1,8 +1,8 @@
 // Records of any size in lent bytes: put in, taken out, written over, and tested for zeros.
 ghost use mathlib.Core.Path.{_≡_};
-ghost use Prim.Native.Nat.{_+_, _-_, _≤_};
+ghost use Prim.Native.Nat.{_+_, _≤_};
 ghost use lib.ListN.{length, replicate};
-ghost use Rattle.records.specs.Edits.{insertAt, removeAt, replaceAt, zeroAt, movedUp, movedDown};
+ghost use Rattle.records.specs.Edits.{insertAt, removeAt, replaceAt, zeroAt, copied};
 
 // Writes the bytes `new` over those from byte `at` on.
 pub fn replace(b: &mut [u8], at: usize, new: &[u8])
@@ -42,29 +42,27 @@ pub fn is_zero(b: &[u8], at: usize, n: usize) -> bool
     true
 }
 
-// Moves the bytes from byte `at` on up by n, from the last one down.
-fn move_up(b: &mut [u8], at: usize, n: usize)
-    requires { ⌜ at + n ≤ length (now b) ⌝ }
-    ensures { λ _. ⌜ now (b .exit) ≡ movedUp n (at + n) (now (b .entry)) ⌝ }
+// Copies n bytes from byte `from` on to byte `to` on, the last one first: the bytes written may be among those read.
+fn copy_up(b: &mut [u8], from: usize, to: usize, n: usize)
+    requires { ⌜ (from ≤ to) × (to + n ≤ length (now b)) ⌝ }
+    ensures { λ _. ⌜ now (b .exit) ≡ copied from to n (now (b .entry)) ⌝ }
 {
-    let stop = at + n;
-    let mut j = b.len();
-    while stop < j {
-        j -= 1;
-        b[j] = b[j - n];
+    let mut i = n;
+    while 0 < i {
+        i -= 1;
+        b[to + i] = b[from + i];
     }
 }
 
-// Moves the bytes after the n from byte `at` on down by n, from the first one up.
-fn move_down(b: &mut [u8], at: usize, n: usize)
-    requires { ⌜ at + n ≤ length (now b) ⌝ }
-    ensures { λ _. ⌜ now (b .exit) ≡ movedDown at n (length (now (b .entry)) - n) (now (b .entry)) ⌝ }
+// The same for a `to` that comes before `from`, the first byte first.
+fn copy_down(b: &mut [u8], from: usize, to: usize, n: usize)
+    requires { ⌜ (to ≤ from) × (from + n ≤ length (now b)) ⌝ }
+    ensures { λ _. ⌜ now (b .exit) ≡ copied from to n (now (b .entry)) ⌝ }
 {
-    let stop = b.len() - n;
-    let mut j = at;
-    while j < stop {
-        b[j] = b[j + n];
-        j += 1;
+    let mut i = 0;
+    while i < n {
+        b[to + i] = b[from + i];
+        i += 1;
     }
 }
 
@@ -73,7 +71,8 @@ pub fn insert(b: &mut [u8], at: usize, new: &[u8])
     requires { ⌜ at + length (now new) ≤ length (now b) ⌝ }
     ensures { λ _. ⌜ now (b .exit) ≡ insertAt at (now (new .entry)) (now (b .entry)) ⌝ }
 {
-    move_up(b, at, new.len());
+    let kept = b.len() - new.len() - at;
+    copy_up(b, at, at + new.len(), kept);
     replace(b, at, new);
 }
 
@@ -82,7 +81,7 @@ pub fn remove(b: &mut [u8], at: usize, n: usize)
     requires { ⌜ at + n ≤ length (now b) ⌝ }
     ensures { λ _. ⌜ now (b .exit) ≡ removeAt at n (now (b .entry)) ⌝ }
 {
-    move_down(b, at, n);
-    let end = b.len() - n;
-    clear(&mut b[end..]);
+    let kept = b.len() - n - at;
+    copy_down(b, at + n, at, kept);
+    clear(&mut b[at + kept..]);
 }

@@ -1,11 +1,24 @@
--- `records::insert` meets its contract: what stood from byte `at` on is moved up, and the new bytes are written over the gap.
+-- `records::insert` meets its contract: what stood from byte `at` on is copied up, and the new bytes are written over the gap.
 use borrow.Author.Needs.{needs}
-use Rattle.records.proofs.Edits.{movedUp-insert}
+use mathlib.Core.Path.{refl}
+use Prim.Native.Nat.{_-_}
+use native.Mathlib.Omega.{arith}
+use lib.ListN.{length}
+use Rattle.records.proofs.Edits.{copied-insert}
 use Rattle.records.proofs.insert.Statement.{statement}
 use Rattle.records.proofs.insert.Tie as tie
 
-move-up-requires : tie.Need-move-up-requires
-move-up-requires c κs = search needs
+sub-kept : tie.Need-sub-kept
+sub-kept c = search needs
+
+sub-kept-2 : tie.Need-sub-kept-2
+sub-kept-2 c = search needs
+
+add-copy-up : tie.Need-add-copy-up
+add-copy-up c = search needs
+
+copy-up-requires : tie.Need-copy-up-requires
+copy-up-requires c κs = search needs
 
 replace-requires : tie.Need-replace-requires
 replace-requires c κs = search needs
@@ -14,7 +27,23 @@ same-length : tie.Need-same-length
 same-length c = search needs
 
 returns : tie.Need-returns
-returns c = search movedUp-insert
+returns c =
+    let at-replace = c .before .before in
+    let at-copy = at-replace .before .before .before .before in
+    let start = at-copy .before .before .before .before in
+    let a = start .args in
+    let n = length (a .new .now) in
+    copied-insert (a .b .now) (at-copy .copy-up .last .0) (a .at) n (length (a .b .now) - n - a .at) (omega arith)
+    (at-replace .replace .last .0) (a .new .now) refl (at-copy .copy-up .ensures) (at-replace .replace .ensures)
 
 pub insert-spec : {M : Type 1} → statement M
-insert-spec = tie.close (tie.spec move-up-requires replace-requires same-length returns)
+insert-spec =
+    tie.close
+    (tie.spec
+    sub-kept
+    sub-kept-2
+    add-copy-up
+    copy-up-requires
+    replace-requires
+    same-length
+    returns)

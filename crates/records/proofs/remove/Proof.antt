@@ -1,18 +1,27 @@
--- `records::remove` meets its contract: what stood after the bytes is moved down, and as many bytes at the end are cleared.
+-- `records::remove` meets its contract: what stood after the bytes is copied down, and as many bytes at the end are cleared.
 use borrow.Author.Needs.{needs}
 use mathlib.Core.Path.{_∙_}
-use Prim.Native.Nat.{_-_}
+use Prim.Native.Nat.{_+_, _-_}
 use native.Mathlib.Omega.{arith}
 use lib.ListN.{length, replicate}
-use Rattle.records.proofs.Edits.{part-lent, movedDown-remove}
+use Rattle.records.proofs.Edits.{part-lent, copied-remove}
 use Rattle.records.proofs.remove.Statement.{statement}
 use Rattle.records.proofs.remove.Tie as tie
 
-move-down-requires : tie.Need-move-down-requires
-move-down-requires c κs = search needs
+sub-kept : tie.Need-sub-kept
+sub-kept c = search needs
 
-sub-end : tie.Need-sub-end
-sub-end c = search needs
+sub-kept-2 : tie.Need-sub-kept-2
+sub-kept-2 c = search needs
+
+add-copy-down : tie.Need-add-copy-down
+add-copy-down c = search needs
+
+copy-down-requires : tie.Need-copy-down-requires
+copy-down-requires c κs = search needs
+
+add-clear : tie.Need-add-clear
+add-clear c = search needs
 
 sub-clear : tie.Need-sub-clear
 sub-clear c = search needs
@@ -32,19 +41,23 @@ same-length c = search needs
 returns : tie.Need-returns
 returns c =
     let at-clear = c .before .before in
-    let at-move = at-clear .before .before .before .before in
-    let start = at-move .before .before .before in
+    let at-copy = at-clear .before .before .before .before in
+    let start = at-copy .before .before .before in
     let a = start .args in
-    let d = at-move .move-down .last .0 in
-    part-lent (length d - a .n) (length d) (λ x. replicate (length x) 0) d (at-clear .clear .last .0) (omega arith) (at-clear .clear .ensures)
-    ∙ movedDown-remove (a .b .now) d (a .at) (a .n) (start .pre) (at-move .move-down .kept .0) (at-move .move-down .ensures)
+    let d = at-copy .copy-down .last .0 in
+    let kept = length (a .b .now) - a .n - a .at in
+    part-lent (a .at + kept) (length d) (λ x. replicate (length x) 0) d (at-clear .clear .last .0) (omega arith) (at-clear .clear .ensures)
+    ∙ copied-remove (a .b .now) d (a .at) (a .n) kept (omega arith) (at-copy .copy-down .kept .0) (at-copy .copy-down .ensures)
 
 pub remove-spec : {M : Type 1} → statement M
 remove-spec =
     tie.close
     (tie.spec
-    move-down-requires
-    sub-end
+    sub-kept
+    sub-kept-2
+    add-copy-down
+    copy-down-requires
+    add-clear
     sub-clear
     part-clear-start
     part-clear-end

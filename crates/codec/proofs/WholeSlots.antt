@@ -1,0 +1,14 @@
+-- Setting all the fields of a slot's bytes makes them the packed slot. Assumes nothing.
+use mathlib.Core.Path.{_≡_, ap, _∙_}
+use mathlib.Core.List.{List}
+use Prim.Native.Nat.{ℕ}
+use native.Mathlib.Omega.{arith}
+use lib.ListN.{length}
+use Rattle.fields.specs.Field.{AreBytes, bytes}
+use Rattle.fields.specs.Fields.{setFields, fieldBits, Fit}
+use Rattle.fields.proofs.Laws.{setFields-packed}
+use Rattle.records.specs.Pack.{size, WholeBytes, pack}
+
+pub set-all : (b ws vs : List ℕ) → AreBytes b → WholeBytes ws → length b ≡ size ws → Fit ws vs → setFields b 0 ws vs ≡ pack ws vs
+unfolding pack
+set-all b ws vs h e l f = setFields-packed b ws vs h f (omega (arith, e)) ∙ ap (λ (n : ℕ). bytes n (fieldBits ws vs)) l

@@ -1,0 +1,16 @@
+-- `certificate_of` makes the certificate of its numbers: by the class.
+use borrow.Author.Tests.{ne-eqb}
+use Rattle.codec.proofs.codes.certificate_of.Statement.{statement}
+use Rattle.codec.proofs.codes.certificate_of.Tie as tie
+
+returns : tie.Need-returns
+returns c = simp (c .match .keys1)
+
+returns-2 : tie.Need-returns-2
+returns-2 c = simp (c .match .keys2)
+
+returns-3 : tie.Need-returns-3
+returns-3 c = simp (ne-eqb _ _ (c .match .rest .0 .1), ne-eqb _ _ (c .match .rest .1))
+
+pub certificate-of-spec : {M : Type 1} → statement M
+certificate-of-spec = tie.close (tie.spec returns returns-2 returns-3)

@@ -1,0 +1,17 @@
+-- `pence` is the header's third number.
+use Rattle.fields.specs.Fields.{fields}
+use Rattle.records.specs.Pack.{unpack}
+use Rattle.layout.specs.Layout.{penceIn}
+use borrow.Author.Needs.{needs}
+use Rattle.codec.proofs.header.pence.Statement.{statement}
+use Rattle.codec.proofs.header.pence.Tie as tie
+
+get-requires : tie.Need-get-requires
+get-requires c κs = search needs
+
+returns : tie.Need-returns
+unfolding penceIn unpack fields
+returns c = c .get .ensures
+
+pub pence-spec : {M : Type 1} → statement M
+pence-spec = tie.close (tie.spec get-requires returns)

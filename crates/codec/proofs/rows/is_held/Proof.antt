@@ -1,0 +1,21 @@
+-- `is_held` reads the slot's first bit.
+use mathlib.Core.Path.{ap}
+use mathlib.Core.Bool.{not}
+use Prim.Native.Nat.{ℕ}
+use lib.Dec.{eqb}
+use Rattle.fields.specs.Fields.{fields}
+use Rattle.records.specs.Pack.{unpack}
+use Rattle.codec.specs.Slots.{isTaken, slotNumbers}
+use borrow.Author.Needs.{needs}
+use Rattle.codec.proofs.rows.is_held.Statement.{statement}
+use Rattle.codec.proofs.rows.is_held.Tie as tie
+
+get-requires : tie.Need-get-requires
+get-requires c κs = search needs
+
+returns : tie.Need-returns
+unfolding isTaken slotNumbers unpack fields
+returns c = ap (λ (n : ℕ). not (eqb n 0)) (c .get .ensures)
+
+pub is-held-spec : {M : Type 1} → statement M
+is-held-spec = tie.close (tie.spec get-requires returns)

@@ -1,0 +1,3 @@
+-- What a slot's own bytes hold, and the widths of fields.
+pub mod Slots
+pub mod Widths

@@ -1,0 +1,31 @@
+// The packed numbers of a record: one read, and all of them written.
+ghost use mathlib.Core.Path.{_≡_};
+ghost use Prim.Native.Nat.{_+_, _*_, _^_, _<_, _≤_};
+ghost use lib.ListN.{length};
+ghost use mathlib.Core.Bool.{true};
+ghost use Rattle.fields.specs.Field.{fieldAt};
+ghost use Rattle.fields.specs.Fields.{sum, setFields, Fit};
+ghost use Rattle.codec.specs.Widths.{widthsOk};
+
+// What the field of w bits from bit `at` on holds, of at most 32.
+pub fn get(s: &[u8], at: usize, w: usize) -> u32
+    requires { ⌜ (0 < w) × ((w ≤ 32) × (at + w ≤ 8 * length (now s))) ⌝ }
+    ensures { λ r. ⌜ r ≡ fieldAt (now (s .entry)) at w ⌝ }
+{
+    fields::get(s, at, w) as u32
+}
+
+// Writes the values into the fields of these widths, one after the other from the first bit on.
+pub fn put_all(s: &mut [u8], widths: &[usize], values: &[u64])
+    requires { ⌜ (sum (now widths) ≤ 8 * length (now s)) × ((sum (now widths) < 2 ^ 64) × ((widthsOk (now widths) ≡ true) × Fit (now widths) (now values))) ⌝ }
+    ensures { λ _. ⌜ now (s .exit) ≡ setFields (now (s .entry)) 0 (now (widths .entry)) (now (values .entry)) ⌝ }
+{
+    let mut at: usize = 0;
+    let mut j = 0;
+    while j < widths.len() {
+        let w = widths[j];
+        fields::put(s, at, w, values[j]);
+        at += w;
+        j += 1;
+    }
+}
