@@ -1,3 +1,4 @@
 -- Laws that the proofs of this crate share.
+pub mod ContractSlots
 pub mod Prefixes
 pub mod WholeSlots

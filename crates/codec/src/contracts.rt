@@ -2,12 +2,14 @@
 use crate::codes;
 use crate::numbers::get;
 use crate::numbers::put_all;
+use crate::ranges;
 use rates::Contract;
 ghost use mathlib.Core.Path.{_≡_};
 ghost use lib.ListN.{length};
 ghost use Rattle.fields.specs.Fields.{Fit};
-ghost use Rattle.layout.specs.PackedLedger.{contractKind};
-ghost use Rattle.codec.specs.Slots.{isTaken, recordIn, recordBytes};
+ghost use Rattle.records.specs.Slots.{slotOk};
+ghost use Rattle.layout.specs.PackedLedger.{contractKind, rangesOf};
+ghost use Rattle.codec.specs.Slots.{slotNumbers, isTaken, recordIn, recordBytes};
 
 // Whether a contract's slot is open.
 pub fn is_open(s: &[u8]) -> bool
@@ -49,4 +51,26 @@ pub fn pack_contract(s: &mut [u8], contract: Contract)
         0,
     ];
     put_all(s, &widths, &values);
+}
+
+// Whether a contract's slot is as it must be: zeros last, all zeros where it is not open, and its numbers in their ranges.
+pub fn slot_ok(s: &[u8], territory: u32) -> bool
+    requires { ⌜ length (now s) ≡ 5 ⌝ }
+    ensures { λ r. ⌜ r ≡ slotOk contractKind (rangesOf territory) (slotNumbers contractKind (now (s .entry))) ⌝ }
+{
+    if get(s, 36, 4) != 0 {
+        return false;
+    }
+    if get(s, 0, 1) == 0 {
+        return records::is_zero(s, 0, 5);
+    }
+    ranges::contract_ranges(
+        territory,
+        get(s, 1, 1),
+        get(s, 2, 2),
+        get(s, 4, 10),
+        get(s, 14, 10),
+        get(s, 24, 2),
+        get(s, 26, 10),
+    )
 }

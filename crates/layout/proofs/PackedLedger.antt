@@ -20,10 +20,14 @@ use Rattle.model.specs.Format.{FormatLaws}
 use Rattle.model.proofs.Codes.{fuel-code, kind-code, kind-days, class-code, class-day, fuel-of-code, kind-of-code, certificate-of-code}
 use Rattle.model.proofs.AcceptedBill.{span-days, kind-low, days-low, effective-low}
 use Rattle.model.proofs.Document01.{contract-test, bill-test, document01-laws}
+use Rattle.model.proofs.Document01Balance.{balances-by-rates}
+use Rattle.model.proofs.HoldsFacts.{bytes-hold}
+use Rattle.model.proofs.SheetAnswers.{bytes-answer-from-the-sheet, accepted-claim-leaves-rest}
+use Rattle.model.proofs.Postings.{bytes-same-as-postings}
 use Rattle.model.proofs.BytesBalance.{bytes-balance, bytes-well-formed}
 use Rattle.layout.specs.Layout.{rowTest, contractsFrom, rowsFrom, ledgerSize}
 use Rattle.layout.specs.PackedLedger.{contractKind, rangesOf, rowKind, packedLayout, packedLedger}
-use Rattle.layout.specs.Theorems.{PackedSize, RoundTrips, PackedHistoriesBalance, NumberTwoMeetsNoCall}
+use Rattle.layout.specs.Theorems.{packedMachine, PackedSize, RoundTrips, DemandThree, PackedHistoriesHoldTheirFacts, PackedAnswersFromTheSheet, PackedSameAsPostings, NumberTwoMeetsNoCall}
 use Rattle.layout.proofs.LayoutLaws.{LayoutLaws, row-facts}
 use Rattle.layout.proofs.RoundTrips.{listed-elements, format-laws, unpacked-packed, repacked, well-formed-exactly}
 
@@ -109,8 +113,24 @@ round-trips = record {
   exactly = well-formed-exactly document01 document01-laws packedLayout packed-laws;
 }
 
-pub packed-histories-balance : PackedHistoriesBalance
-packed-histories-balance = bytes-balance document01 document01-laws packedLedger packed-format
+-- ---- the theorems
+
+pub packed-answers-from-the-sheet : PackedAnswersFromTheSheet
+packed-answers-from-the-sheet = bytes-answer-from-the-sheet document01 document01-laws packedLedger packed-format
+
+pub demand-three : DemandThree
+demand-three =
+    let balanced = bytes-balance document01 document01-laws packedLedger packed-format in
+    record {
+      balances = balances-by-rates packedMachine balanced;
+      last-claim = accepted-claim-leaves-rest document01 packedMachine balanced packed-answers-from-the-sheet;
+    }
+
+pub packed-histories-hold-their-facts : PackedHistoriesHoldTheirFacts
+packed-histories-hold-their-facts = bytes-hold document01 document01-laws packedLedger packed-format
+
+pub packed-same-as-postings : PackedSameAsPostings
+packed-same-as-postings = bytes-same-as-postings document01 document01-laws packedLedger packed-format
 
 pub number-two-meets-no-call : NumberTwoMeetsNoCall
 number-two-meets-no-call = bytes-well-formed document01 document01-laws packedLedger packed-format

@@ -10,7 +10,10 @@ use Rattle.model.specs.Ledger.{Ledger}
 use Rattle.model.specs.WellFormed.{WellFormed}
 use Rattle.model.specs.Format.{bytesMachine}
 use Rattle.model.specs.History.{Machine, stateAfter}
-use Rattle.model.specs.Balance.{EveryHistoryBalances}
+use Rattle.model.specs.Document01Balance.{EveryHistoryBalancesByRates}
+use Rattle.model.specs.HoldsFacts.{EveryHistoryHoldsItsFacts}
+use Rattle.model.specs.SheetAnswers.{EveryAnswerFromTheSheet, EveryAcceptedClaimLeavesRest}
+use Rattle.model.specs.Postings.{SameAsPostings}
 use Rattle.layout.specs.Layout.{ledgerSize, wellFormed, ledgerOf, bytesOf}
 use Rattle.layout.specs.PackedLedger.{packedLayout, packedLedger}
 
@@ -29,9 +32,23 @@ pub record RoundTrips : Type 0 where
   pub bytes : (b : List ℕ) → wellFormed document01 packedLayout b ≡ true → bytesOf document01 packedLayout (ledgerOf document01 packedLayout b) ≡ b
   pub exactly : (b : List ℕ) → (wellFormed document01 packedLayout b ≡ true) ↔ ((l : Ledger) × WellFormed document01 l × (bytesOf document01 packedLayout l ≡ b))
 
--- demand 3, on the bytes: every history balances
-abbrev pub PackedHistoriesBalance : Type 0
-PackedHistoriesBalance = EveryHistoryBalances document01 packedMachine
+-- demand 3, on the bytes: every history balances, with due the sum of kWh times rate over the sheet's standing bills; and a claim that the
+-- sheet accepts as the last call leaves 0 to 9,999
+pub record DemandThree : Type 0 where
+  pub balances : EveryHistoryBalancesByRates packedMachine
+  pub last-claim : EveryAcceptedClaimLeavesRest document01 packedMachine
+
+-- demand 2, for every history: the bytes hold exactly the sheet's facts
+abbrev pub PackedHistoriesHoldTheirFacts : Type 0
+PackedHistoriesHoldTheirFacts = EveryHistoryHoldsItsFacts document01 packedMachine
+
+-- every answer in every history is that of the sheet
+abbrev pub PackedAnswersFromTheSheet : Type 0
+PackedAnswersFromTheSheet = EveryAnswerFromTheSheet document01 packedMachine
+
+-- the move from postings: call by call the rate, the customer's signed amount and the pence of each claim are the posting module's
+abbrev pub PackedSameAsPostings : Type 0
+PackedSameAsPostings = SameAsPostings document01 packedMachine
 
 -- number 2 meets no call of a history
 abbrev pub NumberTwoMeetsNoCall : Type 0

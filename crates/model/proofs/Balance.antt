@@ -1,12 +1,11 @@
 -- Every history balances. Assumes nothing.
 use mathlib.Core.Path.{_≡_, refl, sym, ap, _∙_, subst}
-use mathlib.Core.Logic.{_≢_}
 use mathlib.Core.Bool.{false≢true}
 use mathlib.Core.List.{List, [], _∷_, _++_, List·Memᴰ, List·Memᴰ·head, List·Memᴰ·tail}
-use Prim.Native.Nat.{ℕ, zero, suc, _+_, _-_, _*_, _/_, _<_, _≤_, zero-le}
+use Prim.Native.Nat.{ℕ, zero, suc, _-_, _*_, _/_, _<_, _≤_, zero-le}
 use native.Mathlib.Omega.{arith}
 use lib.IntN.{ℤ, pos, subℕ, _+ℤ_, +ℤ-idr}
-use Rattle.basics.specs.Lists.{All, total}
+use Rattle.basics.specs.Lists.{All}
 use Rattle.basics.specs.Integers.{sumℤ}
 use Rattle.basics.proofs.Integers.{sub-ge, reset}
 use Rattle.rates.specs.declared.Bill.{Bill}
@@ -15,7 +14,6 @@ use Rattle.model.specs.declared.Answer.the-variants.{Claimed, Totalled}
 use Rattle.model.specs.Contracts.{contractAt, isOpen}
 use Rattle.model.specs.Calls.{Call, callOpen, callBill, callRebill, callCert, callCancel, callClaim, callReport, callTotal, customerAmount, claimPence}
 use Rattle.model.specs.Rules.{Rules, refusal, partOfDue}
-use Rattle.model.specs.WellFormed.{before}
 use Rattle.model.specs.Ledger.{Ledger, fresh, unlessRefused, outcome, step, answer, view as viewL, due as dueL, accept as acceptL}
 use Rattle.model.specs.Sheet.{Sheet, blank, view as viewS, due as dueS, accept as acceptS, step as stepS, unlessRefused as unlessRefusedS}
 use Rattle.model.specs.History.{run, replies, sheetAfter, stateAfter, answersTo, ledgerMachine}
@@ -89,7 +87,7 @@ module _ (R : Rules) (ok : RulesLaws R) where
   act-floor l (callReport c) p rest e = cc
   act-floor l callTotal p rest e = cc
 
-  -- an accepted claim leaves the claimPence contractAt the floor, and no other call replies as it does
+  -- an accepted claim leaves the pence at the floor, and no other call answers as it does
   claim-floor : (l : Ledger) (c : Call) (p : ℤ) (rest : ℕ) → answer R l c ≡ Claimed p rest → step R l c .pence ≡ dueL (step R l c) / 10000
   unfolding answer step outcome dueL
   claim-floor l c p rest e = go (refusal R (viewL l) c) e
@@ -106,7 +104,7 @@ module _ (R : Rules) (ok : RulesLaws R) where
   last-claim (c ∷ []) l (a ∷ before) p rest e = last-claim [] (step R l c) before p rest (cc)
   last-claim (c ∷ d ∷ h) l (a ∷ before) p rest e = last-claim (d ∷ h) (step R l c) before p rest (cc)
 
-  -- ---- the statement, from a related pair on: what was answersTo before the ledgerMachine and the sheet met, and what is answersTo stateAfter
+  -- ---- the statement, from a related pair on: what was answered before, and what is answered after
 
   module _ (l₀ : Ledger) (s₀ : Sheet) (r₀ : Related R l₀ s₀) (h : List Call) (earlier : List Answer)
       (due₀ : sumℤ customerAmount earlier ≡ pos (dueL l₀)) (pence₀ : sumℤ claimPence earlier ≡ pos (l₀ .pence))

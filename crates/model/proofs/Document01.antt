@@ -1,14 +1,13 @@
 -- Document 01's rules keep the laws that the proofs use. Assumes nothing.
 use mathlib.Core.Path.{_≡_, refl}
-use mathlib.Core.Bool.{Bool, true, false, not, _&&_}
+use mathlib.Core.Bool.{true, false, not, _&&_}
 use Prim.Native.Nat.{ℕ, _≤_}
 use native.Mathlib.Omega.{arith}
-use lib.Dec.{T, leb, ltb}
+use lib.Dec.{T}
 use lib.ListN.{getD}
 use Rattle.basics.proofs.Tests.{not-no, no-not, not-yes, lt-no, lt-yes, le-no, le-yes, yes-le, every-at, every-all}
 use Rattle.rates.specs.declared.Contract.{Contract}
 use Rattle.rates.specs.declared.Bill.{Bill}
-use Rattle.rates.specs.Rates.{amount}
 use Rattle.rates.proofs.WithinCaps.{amount-capped, amount-low}
 use Rattle.model.specs.Codes.{fuelCode, kindCode, priceFixDay, entryDay, classCode, effectiveDay, opening, certify}
 use Rattle.model.specs.Contracts.{contractAt, isOpen}

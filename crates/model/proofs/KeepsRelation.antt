@@ -3,8 +3,7 @@ use mathlib.Core.Path.{_≡_, refl, sym, ap, _∙_, subst}
 use mathlib.Core.Logic.{_≢_}
 use mathlib.Core.Bool.{Bool, true, false, cond, true≢false}
 use mathlib.Core.List.{List, [], _∷_, map}
-use mathlib.Core.Option.{none}
-use Prim.Native.Nat.{ℕ, suc, _-_, _≤_}
+use Prim.Native.Nat.{ℕ, suc, _≤_}
 use native.Mathlib.Omega.{arith}
 use lib.Dec.{eqb}
 use Rattle.basics.specs.Lists.{All, total, count}
@@ -14,10 +13,9 @@ use Rattle.rates.specs.declared.Contract.{Contract}
 use Rattle.rates.specs.declared.Bill.{Bill}
 use Rattle.model.specs.declared.Row.{Row}
 use Rattle.model.specs.Codes.{opening, certify}
-use Rattle.model.specs.Contracts.{Contracts, contractAt, isOpen, putContract, isThere}
-use Rattle.model.specs.Calls.{Call, callOpen, callBill, callRebill, callCert, callCancel, callClaim, callReport, callTotal, BillRequest, _if_, named, sharing, requestedBill}
+use Rattle.model.specs.Contracts.{Contracts, contractAt, isOpen, putContract}
+use Rattle.model.specs.Calls.{Call, callOpen, callBill, callRebill, callCert, callCancel, callClaim, callReport, callTotal, BillRequest, named, sharing, requestedBill}
 use Rattle.model.specs.Rules.{Rules, refusal}
-use Rattle.model.specs.WellFormed.{before}
 use Rattle.model.specs.Ledger.{Ledger, remove, replace, priced, rerated, accept as acceptL}
 use Rattle.model.specs.Sheet.{Sheet, strikeOut, inPlaceOf, view as viewS, accept as acceptS}
 use Rattle.model.proofs.RowSums.{total-strike, total-swap, total-insert, total-remove, total-replace}
@@ -43,7 +41,7 @@ one-le : (p q : Bool) → (p ≡ true → q ≡ true) → cond p 1 0 ≤ cond q 
 one-le true q f = rw (f refl) (omega arith)
 one-le false q f = omega arith
 
--- one bill more, where none of that name was isThere
+-- one bill more, where none of that name was there
 once-more : (b : Bill) (bs : List Bill) → count (named (b .contract) (b .first)) bs ≡ 0 → (c first : ℕ) → count (named c first) bs ≤ 1 → count (named c first) (b ∷ bs) ≤ 1
 once-more b bs z c first h = either (named c first b)
     (λ e. let z′ : count (named c first) bs ≡ 0 = rw (named-contract c first b e, named-first c first b e) at z in rw e (omega arith))
@@ -66,7 +64,7 @@ all-swap P p b (x ∷ bs) h a = (go (p x), all-swap P p b bs h (a .1))
     go true = h
     go false = a .0
 
--- what is left is no more than what was isThere
+-- what is left is no more than what was there
 count-strike : (p q : Bill → Bool) (bs : List Bill) → count q (strikeOut p bs) ≤ count q bs
 count-strike p q bs = omega (arith, total-strike p (λ x. cond (q x) 1 0) bs, total-split p (λ x. cond (q x) 1 0) bs)
 
@@ -105,6 +103,13 @@ contracts-put P cs c k o f d e = either (eqb d c)
     (λ i. rw (eq-yes d c i, at-same cs c k) o)
     (λ i. rw (at-other cs c d k (eq-no d c i)) (f d (sym (open-other cs c d k (eq-no d c i)) ∙ e)))
 
+-- a row rated anew is the row of its bill under the other contract
+pub rerated-row : (R : Rules) (cs : Contracts) (c : ℕ) (k : Contract) (b : Bill) → rerated R c k (rowOf R cs b) ≡ rowOf R (putContract cs c k) b
+unfolding rowOf rerated priced
+rerated-row R cs c k b = either (eqb (b .contract) c)
+    (λ e. rw (e, eq-yes (b .contract) c e, at-same cs c k))
+    (λ e. rw (e, at-other cs c (b .contract) k (eq-no (b .contract) c e)))
+
 module _ (R : Rules) (ok : RulesLaws R) where
   named-count : (cs : Contracts) (c first last : ℕ) (bs : List Bill) → first ≤ last → All (BillOk R cs) bs → count (named c first) bs ≤ count (sharing c first last) bs
   named-count cs c first last bs h a = total-mono _ _ bs (all-map (BillOk R cs) _ (λ b q. one-le (named c first b) (sharing c first last b) (named-shares c first last b h (ok .days _ b (q .ranges) .0))) bs a)
@@ -130,7 +135,7 @@ module _ (R : Rules) (ok : RulesLaws R) where
       zero′ : count (named (b .contract) (b .first)) (s .bills) ≡ 0
       zero′ = omega (arith, ok .bill-free (viewS s) b e, named-count (s .contracts) (b .contract) (b .first) (b .last) (s .bills) (ok .days _ _ ranges .0) (r .sane))
 
-  -- ---- a bill taken away, or putContract in place of another: sums over rows are sums over bills, with a test
+  -- ---- a bill taken away, or put in place of another: sums over rows are sums over bills, with a test
 
   module _ (l : Ledger) (s : Sheet) (r : Related R l s) (c first : ℕ) where
     gone : (w : Row → ℕ) → total w (remove (named c first) (l .rows)) ≡ total (λ b. w (rowOf R (s .contracts) b)) (strikeOut (named c first) (s .bills))
@@ -197,7 +202,7 @@ module _ (R : Rules) (ok : RulesLaws R) where
     territory = r .territory;
     contracts = rw (r .contracts);
     claims = r .claims;
-    same = λ w. rw (r .contracts) (total-map w (rerated R c k′) (l .rows) ∙ r .same (λ x. w (rerated R c k′ x)) ∙ total-cong _ _ (λ b. ap w (again b)) (s .bills));
+    same = λ w. rw (r .contracts) (total-map w (rerated R c k′) (l .rows) ∙ r .same (λ x. w (rerated R c k′ x)) ∙ total-cong _ _ (λ b. ap w (rerated-row R (s .contracts) c k′ b)) (s .bills));
     good = contracts-put (λ k. R .contractOk (s .territory) k ≡ true) (s .contracts) c k′ (o .ranges (contractAt (s .contracts) c) (r .good c (o .isOpened))) (r .good);
     sane = all-map (BillOk R (s .contracts)) (BillOk R (putContract (s .contracts) c k′)) still (s .bills) (r .sane);
     once = r .once;
@@ -216,11 +221,6 @@ module _ (R : Rules) (ok : RulesLaws R) where
             ranges = subst (λ (k : Contract). R .billOk k b ≡ true) (sym (ap (contractAt (putContract (s .contracts) c k′)) p ∙ at-same (s .contracts) c k′)) (ok .any-cert (contractAt (s .contracts) c) class effective b (subst (λ (d : ℕ). R .billOk (contractAt (s .contracts) d) b ≡ true) p (q .ranges)));
           })
           (λ e. let n : b .contract ≢ c = eq-no (b .contract) c e in record { isOpened = open-other (s .contracts) c (b .contract) k′ n ∙ q .isOpened; ranges = rw (at-other (s .contracts) c (b .contract) k′ n) (q .ranges) })
-
-      again : (b : Bill) → rerated R c k′ (rowOf R (s .contracts) b) ≡ rowOf R (putContract (s .contracts) c k′) b
-      again b = either (eqb (b .contract) c)
-          (λ e. rw (e, eq-yes (b .contract) c e, at-same (s .contracts) c k′))
-          (λ e. rw (e, at-other (s .contracts) c (b .contract) k′ (eq-no (b .contract) c e)))
 
   keep-claim : (l : Ledger) (s : Sheet) → Related R l s → Related R (acceptL R l callClaim .next) (acceptS s callClaim)
   unfolding acceptL acceptS

@@ -15,3 +15,10 @@ pub mod StaysWellFormed
 pub mod Balance
 pub mod Refinement
 pub mod BytesBalance
+pub mod HoldsFacts
+pub mod Differences
+pub mod SheetAnswers
+pub mod Postings
+pub mod Document01Balance
+pub mod Run
+pub mod BoundaryExamples

@@ -1,10 +1,9 @@
 -- What holds of every history of a machine holds of those of another that does the same, as of the ledger and its bytes. Assumes nothing.
 use mathlib.Core.Path.{_≡_, refl, sym, ap, _∙_, subst₃}
 use mathlib.Core.List.{List, [], _∷_}
-use Prim.Native.Nat.{ℕ, _-_, _≤_}
+use Prim.Native.Nat.{ℕ, _≤_}
 use Rattle.model.specs.declared.Answer.{Answer}
 use Rattle.model.specs.Calls.{Call}
-use Rattle.model.specs.Ledger.{step, answer}
 use Rattle.model.specs.Ledger.{Ledger}
 use Rattle.model.specs.History.{run, replies, Machine, stateAfter, answersTo}
 

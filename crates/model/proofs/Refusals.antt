@@ -1,8 +1,8 @@
 -- What an accepted call says of each of its tests, looked up by the paper's number. Assumes nothing.
 use mathlib.Core.Path.{_≡_, refl}
-use mathlib.Core.Bool.{Bool, true, false, not, cond, _&&_}
+use mathlib.Core.Bool.{Bool, true, false, cond, _&&_}
 use mathlib.Core.List.{List, [], _∷_}
-use Prim.Native.Nat.{ℕ, _-_, _≤_}
+use Prim.Native.Nat.{ℕ, _≤_}
 use native.Mathlib.Omega.{arith}
 use lib.Dec.{T, leb, eqb}
 use Rattle.basics.proofs.Tests.{T-yes, yes-T, and-left, and-right, le-yes}

@@ -1,15 +1,13 @@
 -- What holds between the ledger and the sheet before and after every call. Assumes nothing.
 use mathlib.Core.Path.{_≡_, ap}
 use mathlib.Core.Bool.{true, cond}
-use Prim.Native.Nat.{ℕ, _-_, _≤_}
-use Rattle.basics.specs.Tests.{every}
+use Prim.Native.Nat.{ℕ, _≤_}
 use Rattle.basics.specs.Lists.{All, total, count}
 use Rattle.rates.specs.declared.Bill.{Bill}
 use Rattle.model.specs.declared.Row.{Row}
 use Rattle.model.specs.Contracts.{Contracts, contractAt, isOpen}
 use Rattle.model.specs.Calls.{Call, named}
 use Rattle.model.specs.Rules.{Rules, refusal, partOfDue}
-use Rattle.model.specs.WellFormed.{before}
 use Rattle.model.specs.Ledger.{Ledger, priced, view as viewL, due as dueL}
 use Rattle.model.specs.Sheet.{Sheet, view as viewS, due as dueS}
 

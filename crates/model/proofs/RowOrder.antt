@@ -3,7 +3,7 @@ use mathlib.Core.Path.{_≡_, refl, sym}
 use mathlib.Core.Logic.{_≢_}
 use mathlib.Core.Bool.{Bool, true, false, cond}
 use mathlib.Core.List.{List, [], _∷_, map}
-use Prim.Native.Nat.{_-_, _<_, _≤_}
+use Prim.Native.Nat.{_<_, _≤_}
 use native.Mathlib.Omega.{arith}
 use lib.Dec.{leb, ltb, eqb}
 use Rattle.basics.specs.Lists.{All}
@@ -11,11 +11,9 @@ use Rattle.basics.proofs.Tests.{either, and-left, and-right, yes-le, lt-no, lt-
 use Rattle.basics.proofs.Lists.{all-map}
 use Rattle.rates.specs.declared.Bill.{Bill}
 use Rattle.model.specs.declared.Row.{Row}
-use Rattle.model.specs.Contracts.{putContract}
 use Rattle.model.specs.Calls.{sharing}
 use Rattle.model.specs.WellFormed.{before, Apart}
 use Rattle.model.specs.Ledger.{insert, remove, replace, sortsAfter}
-use Rattle.model.specs.History.{stateAfter}
 
 pub record Span (x : Row) : Type 0 where
   pub days : x .bill .first ≤ x .bill .last
@@ -25,7 +23,7 @@ before-trans : (x y z : Row) → Span y → before x y → before y z → before
 unfolding before
 before-trans x y z q h k = omega arith
 
--- the rows that share no day with a new one, by which of the two sorts stateAfter the other
+-- the rows that share no day with a new one, by which of the two sorts after the other
 module _ (r x : Row) (p : Span r) (q : Span x) (e : sharing (r .bill .contract) (r .bill .first) (r .bill .last) (x .bill) ≡ false) where
   pub left-of : sortsAfter (x .bill) (r .bill) ≡ false → before x r
   unfolding before sortsAfter sharing
@@ -56,7 +54,7 @@ module _ (r x : Row) (p : Span r) (q : Span x) (e : sharing (r .bill .contract) 
       (λ d. let j : x .bill .last < r .bill .first = le-no (r .bill .first) (x .bill .last) (and-no (leb (x .bill .first) (r .bill .last)) (leb (r .bill .first) (x .bill .last)) (and-no (eqb (x .bill .contract) (r .bill .contract)) _ e (yes-eq (x .bill .contract) (r .bill .contract) (sym k))) d) in omega arith)
       (λ d. let j : r .bill .last < x .bill .first = le-no (x .bill .first) (r .bill .last) d in omega arith))
 
--- ---- putContract in
+-- ---- put in
 
 pub all-insert : (P : Row → Type 0) (r : Row) (xs : List Row) → P r → All P xs → All P (insert r xs)
 all-insert P r [] p a = (p, tt)
@@ -97,7 +95,7 @@ apart-remove p (x ∷ xs) a = go (p (x .bill)) (apart-remove p xs (a .1))
     go true t = a .1
     go false t = (all-remove (before x) p xs (a .0), t)
 
--- ---- putContract in place of another that starts on the same day
+-- ---- put in place of another that starts on the same day
 
 pub all-replace : (P : Row → Type 0) (p : Bill → Bool) (r : Row) (xs : List Row) → P r → All P xs → All P (replace p r xs)
 all-replace P p r [] h a = tt
@@ -107,7 +105,7 @@ all-replace P p r (x ∷ xs) h a = go (p (x .bill)) (all-replace P p r xs h (a .
     go true t = (h, a .1)
     go false t = (a .0, t)
 
--- what comes before a row, or stateAfter it, so does before and stateAfter the one in its place
+-- what comes before a row, or after it, comes so before and after the one in its place
 all-replace-named : (P : Row → Type 0) (p : Bill → Bool) (r : Row) → ((x : Row) → p (x .bill) ≡ true → P x → P r) → (xs : List Row) → All P xs → All P (replace p r xs)
 all-replace-named P p r f [] a = tt
 all-replace-named P p r f (x ∷ xs) a = go (p (x .bill)) refl (all-replace-named P p r f xs (a .1))

@@ -2,14 +2,12 @@
 use mathlib.Core.Path.{_≡_, refl}
 use mathlib.Core.Bool.{Bool, true, false, cond}
 use mathlib.Core.List.{List, [], _∷_, map}
-use Prim.Native.Nat.{ℕ, _+_, _-_, _≤_}
+use Prim.Native.Nat.{ℕ, _+_, _≤_}
 use native.Mathlib.Omega.{arith}
 use Rattle.basics.specs.Lists.{total, count}
 use Rattle.basics.proofs.Lists.{total-none, total-zero}
-use Rattle.basics.proofs.Integers.{change}
 use Rattle.rates.specs.declared.Bill.{Bill}
 use Rattle.model.specs.declared.Row.{Row}
-use Rattle.model.specs.Contracts.{contractAt}
 use Rattle.model.specs.Ledger.{insert, amountOf, remove, replace, sortsAfter}
 use Rattle.model.specs.Sheet.{strikeOut, inPlaceOf}
 
@@ -46,7 +44,7 @@ module _ (p : Bill → Bool) where
   abbrev on : Row → Bool
   on x = p (x .bill)
 
-  -- where contractAt most one row passes the test
+  -- where at most one row passes the test
   pub total-remove : (w : Row → ℕ) (xs : List Row) → count on xs ≤ 1 → total w (remove p xs) ≡ total (λ x. cond (on x) 0 (w x)) xs
   total-remove w [] h = refl
   total-remove w (x ∷ xs) h = go (on x) (total-remove w xs) h

@@ -1,12 +1,12 @@
 -- What the proofs use of the rules. Assumes nothing.
 use mathlib.Core.Path.{_≡_}
 use mathlib.Core.Bool.{true, false, not, _&&_}
-use Prim.Native.Nat.{ℕ, _-_, _<_, _≤_}
+use Prim.Native.Nat.{ℕ, _<_, _≤_}
 use Rattle.rates.specs.declared.Contract.{Contract}
 use Rattle.rates.specs.declared.Bill.{Bill}
 use Rattle.model.specs.Codes.{opening, certify}
 use Rattle.model.specs.Contracts.{contractAt, isOpen}
-use Rattle.model.specs.Calls.{callOpen, callBill, callRebill, callCert, callCancel, callClaim, callTotal, BillRequest, View, _if_, named, sharing, requestedBill}
+use Rattle.model.specs.Calls.{callOpen, callBill, callRebill, callCert, callCancel, callClaim, callTotal, BillRequest, View, named, sharing, requestedBill}
 use Rattle.model.specs.Rules.{Rules, refusal}
 
 pub record Taken (R : Rules) (v : View) (b : BillRequest) : Type 0 where

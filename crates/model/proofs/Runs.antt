@@ -2,10 +2,8 @@
 -- what is answered is changed by the sum of the answers. Over any types of state, input and answer, and from any related start. Assumes nothing.
 use mathlib.Core.Path.{_≡_, sym, ap, _∙_}
 use mathlib.Core.List.{List, [], _∷_, _++_}
-use Prim.Native.Nat.{_+_, _-_}
 use lib.IntN.{ℤ, _+ℤ_, +ℤ-assoc, +ℤ-idr, +ℤ-idl}
 use Rattle.basics.specs.Integers.{sumℤ}
-use Rattle.model.specs.Sheet.{step as stepS}
 use Rattle.model.specs.History.{run, replies}
 
 module _ {L S C A : Type 0} (step : L → C → L) (answer : L → C → A) (stepS : S → C → S) (R : L → S → Type 0) (keep : (l : L) (s : S) (c : C) → R l s → R (step l c) (stepS s c)) where

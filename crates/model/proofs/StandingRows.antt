@@ -2,31 +2,30 @@
 use mathlib.Core.Path.{_≡_, refl}
 use mathlib.Core.Bool.{Bool, true, false, cond, _&&_}
 use mathlib.Core.List.{List, [], _∷_, List·Memᴰ, List·Memᴰ·head, List·Memᴰ·tail}
-use Prim.Native.Nat.{ℕ, _+_, _-_, _<_}
+use Prim.Native.Nat.{ℕ, _+_, _<_}
 use native.Mathlib.Omega.{arith}
 use lib.Dec.{eqb}
 use Rattle.basics.specs.Lists.{count}
 use Rattle.basics.proofs.Tests.{and-left, and-right, eq-yes, yes-eq}
 use Rattle.rates.specs.declared.Bill.{Bill}
 use Rattle.model.specs.declared.Row.{Row}
-use Rattle.model.specs.Book.{reference}
 use Rattle.model.specs.Rules.{Rules, partOfDue}
 use Rattle.model.specs.Ledger.{Ledger, priced}
 use Rattle.model.specs.Sheet.{Sheet}
 use Rattle.model.proofs.Relation.{Related, rowOf}
 
-equal : Row → Row → Bool
+pub equal : Row → Row → Bool
 equal x y = eqb (x .bill .contract) (y .bill .contract) && (eqb (x .bill .first) (y .bill .first) && (eqb (x .bill .last) (y .bill .last)
     && (eqb (x .bill .kwh) (y .bill .kwh) && (eqb (x .bill .reference) (y .bill .reference) && (eqb (x .bill .supply) (y .bill .supply) && eqb (x .amount) (y .amount))))))
 
 itself : (n : ℕ) → eqb n n ≡ true
 itself n = yes-eq n n refl
 
-equal-refl : (x : Row) → equal x x ≡ true
+pub equal-refl : (x : Row) → equal x x ≡ true
 unfolding equal
 equal-refl x = simp itself
 
-equal-path : (x y : Row) → equal x y ≡ true → x ≡ y
+pub equal-path : (x y : Row) → equal x y ≡ true → x ≡ y
 unfolding equal
 equal-path x y e0 =
     let e1 = and-right (eqb (x .bill .contract) (y .bill .contract)) _ e0 in
@@ -48,11 +47,11 @@ equal-path x y e0 =
     }
 
 module _ {A : Type 0} (p : A → Bool) where
-  counted : (a : A) (xs : List A) → List·Memᴰ a xs → p a ≡ true → 0 < count p xs
+  pub counted : (a : A) (xs : List A) → List·Memᴰ a xs → p a ≡ true → 0 < count p xs
   counted a (x ∷ xs) (List·Memᴰ·head e) h = rw (← e, h) (omega arith)
   counted a (x ∷ xs) (List·Memᴰ·tail m) h = let z : 0 < count p xs = counted a xs m h in omega arith
 
-  placed : (xs : List A) → 0 < count p xs → (a : A) × List·Memᴰ a xs × (p a ≡ true)
+  pub placed : (xs : List A) → 0 < count p xs → (a : A) × List·Memᴰ a xs × (p a ≡ true)
   placed [] h = let z : ⊥ = omega arith in absurd z
   placed (x ∷ xs) h = go (p x) refl (placed xs) h
     where

@@ -4,7 +4,7 @@ use mathlib.Core.Logic.{_≢_}
 use mathlib.Core.Bool.{Bool, true, false, not, cond, _&&_, false≢true, true≢false}
 use mathlib.Core.List.{List, [], _∷_}
 use mathlib.Core.Option.{none}
-use Prim.Native.Nat.{ℕ, zero, suc, _+_, _-_, _*_, _<_, _≤_, zero-le}
+use Prim.Native.Nat.{ℕ, zero, suc, _+_, _*_, _<_, _≤_, zero-le}
 use native.Mathlib.Omega.{arith}
 use lib.Dec.{ltb, eqb}
 use lib.ListN.{length, length-map}
@@ -16,7 +16,7 @@ use Rattle.rates.specs.declared.Bill.{Bill}
 use Rattle.model.specs.declared.Row.{Row}
 use Rattle.model.specs.Codes.{opening, certify}
 use Rattle.model.specs.Contracts.{Contracts, contractAt, isOpen, putContract}
-use Rattle.model.specs.Calls.{Call, callOpen, callBill, callRebill, callCert, callCancel, callClaim, callReport, callTotal, BillRequest, View, _if_, named, sharing, requestedBill}
+use Rattle.model.specs.Calls.{Call, callOpen, callBill, callRebill, callCert, callCancel, callClaim, callReport, callTotal, BillRequest, View, named, sharing, requestedBill}
 use Rattle.model.specs.Rules.{Rules, refusal, partOfDue}
 use Rattle.model.specs.WellFormed.{RowOk, before, WellFormed}
 use Rattle.model.specs.Ledger.{Ledger, insert, remove, replace, sortsAfter, priced, rerated, fresh, unlessRefused, outcome, step, view as viewL, due as dueL, accept as acceptL}

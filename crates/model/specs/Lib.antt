@@ -11,3 +11,9 @@ pub mod History
 pub mod Balance
 pub mod WellFormed
 pub mod Format
+pub mod HoldsFacts
+pub mod SheetAnswers
+pub mod Postings
+pub mod Document01Balance
+pub mod Run
+pub mod BoundaryExamples

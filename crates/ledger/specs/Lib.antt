@@ -1,0 +1,2 @@
+-- What the check and the search of a packed ledger find.
+pub mod Check

@@ -1,0 +1,1 @@
+// Rows by their place, and the first row that passes a test.

@@ -1,0 +1,16 @@
+-- The paper's run, by computation. Assumes nothing.
+use mathlib.Core.Path.{refl}
+use Rattle.rates.specs.Rates.{leastTerm, part, partOf, classRate, qhsClass, classOf, rate, amount}
+use Rattle.model.specs.Codes.{opening, certify}
+use Rattle.model.specs.Contracts.{contractAt, isOpen, putContract}
+use Rattle.model.specs.Book.{reference}
+use Rattle.model.specs.Calls.{named, sharing, requestedBill}
+use Rattle.model.specs.Rules.{refusal}
+use Rattle.model.specs.Document01.{badBook, badKind, badDays, badEffective, badSpan, badAmounts, noPrice, tests}
+use Rattle.model.specs.Ledger.{fresh, view, sortsAfter, due, priced, rerated, accept, outcome, step, answer}
+use Rattle.model.specs.History.{answersTo}
+use Rattle.model.specs.Run.{request, runCalls, runAnswers, TheRun}
+
+pub the-run : TheRun
+unfolding answersTo request runCalls runAnswers fresh view sortsAfter due priced rerated accept outcome step answer refusal tests badBook badKind badDays badEffective badSpan badAmounts noPrice named sharing requestedBill reference contractAt isOpen putContract opening certify amount rate classOf qhsClass classRate partOf part leastTerm
+the-run = refl

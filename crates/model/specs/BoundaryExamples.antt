@@ -1,0 +1,164 @@
+-- Document 01, "Turned down, in checking order": calls on either side of each limit, with the number that turns each down, 0 where none
+-- does. Assumes nothing.
+use mathlib.Core.Path.{_≡_}
+use mathlib.Core.Bool.{Bool, true}
+use mathlib.Core.List.{List, [], _∷_, _++_, map}
+use Prim.Native.Nat.{ℕ}
+use lib.Dec.{eqb}
+use lib.ListN.{replicate}
+use Rattle.basics.specs.Tests.{every}
+use Rattle.basics.specs.Lists.{All}
+use Rattle.rates.specs.declared.Bill.{Bill}
+use Rattle.model.specs.Codes.{opening}
+use Rattle.model.specs.Contracts.{noContracts, putContract}
+use Rattle.model.specs.Calls.{Call, callOpen, callBill, callRebill, callCert, callCancel, callClaim, callReport, BillRequest}
+use Rattle.model.specs.Rules.{refusal}
+use Rattle.model.specs.Document01.{document01}
+use Rattle.model.specs.Sheet.{Sheet, view}
+use Rattle.model.specs.Run.{request}
+
+-- a call made on a sheet, and the number that turns it down
+pub record Boundary : Type 0 where
+  pub sheet : Sheet
+  pub call : Call
+  pub number : ℕ
+
+infix 4 _on_gives_
+abbrev pub _on_gives_ : Call → Sheet → ℕ → Boundary
+c on s gives n = record { sheet = s; call = c; number = n }
+
+-- a standing bill of a contract
+unfoldable pub standing : (contract first last : ℕ) → Bill
+standing c first last = record { contract = c; first = first; last = last; kwh = 1; reference = 1; supply = 1 }
+
+-- contract 0 flexible electricity, contract 1 variable gas
+unfoldable pub sheetWith : (territory : ℕ) → List Bill → (claims : ℕ) → Sheet
+sheetWith t bs n = record { territory = t; contracts = putContract (putContract noContracts 0 (opening 0 2 0 0)) 1 (opening 1 1 0 0); bills = bs; claims = n }
+
+-- a Great Britain and a Northern Ireland ledger in which contract 0 has bills of the days 500 to 510 and 600 to 610
+unfoldable pub britain : Sheet
+britain = sheetWith 0 (standing 0 500 510 ∷ standing 0 600 610 ∷ []) 0
+
+unfoldable pub ireland : Sheet
+ireland = sheetWith 1 (standing 0 500 510 ∷ standing 0 600 610 ∷ []) 0
+
+-- so many rows held; the test reads no more of them
+unfoldable pub holding : ℕ → Sheet
+holding n = sheetWith 0 (replicate n (standing 1 486 486)) 0
+
+-- so many claims made
+unfoldable pub claiming : ℕ → Sheet
+claiming n = sheetWith 0 [] n
+
+-- a bill or rebill with another book
+unfoldable pub withBook : List ℕ → BillRequest → BillRequest
+withBook book q = record { contract = q .contract; first = q .first; last = q .last; kwh = q .kwh; supply = q .supply; wap = q .wap; book = book }
+
+-- a price of contract 1 in April 2023: entry 1,716 of the book
+unfoldable pub april : List ℕ
+april = replicate 1716 0 ++ (1 ∷ replicate 23 0)
+
+-- 3: the book isn't 1,740 entries or has one above 999,999
+unfoldable pub atNumber3 : List Boundary
+atNumber3 =
+    (callBill (withBook (replicate 1739 0) (request 0 486 499 1 1 1)) on britain gives 3)
+    ∷ (callBill (withBook (replicate 1741 0) (request 0 486 499 1 1 1)) on britain gives 3)
+    ∷ (callBill (withBook (1000000 ∷ replicate 1739 0) (request 0 486 499 1 1 1)) on britain gives 3)
+    ∷ (callBill (withBook (999999 ∷ replicate 1739 0) (request 0 486 499 1 1 1)) on britain gives 0)
+    ∷ []
+
+-- 4: the contract number is above 63
+unfoldable pub atNumber4 : List Boundary
+atNumber4 = (callOpen 64 0 0 0 0 on britain gives 4) ∷ (callOpen 63 0 0 0 0 on britain gives 0) ∷ []
+
+-- 5: the contract is open already (open), or isn't open
+unfoldable pub atNumber5 : List Boundary
+atNumber5 = (callOpen 1 0 0 0 0 on britain gives 5) ∷ (callReport 2 on britain gives 5) ∷ (callReport 1 on britain gives 0) ∷ []
+
+-- 6: a code has no meaning, or kind 3 is given outside its place
+unfoldable pub atNumber6 : List Boundary
+atNumber6 =
+    (callOpen 2 2 0 0 0 on britain gives 6)
+    ∷ (callOpen 2 0 4 0 0 on britain gives 6)
+    ∷ (callOpen 2 0 3 0 0 on britain gives 6)
+    ∷ (callOpen 2 1 3 0 0 on ireland gives 6)
+    ∷ (callOpen 2 0 3 0 0 on ireland gives 0)
+    ∷ (callCert 0 3 511 on britain gives 6)
+    ∷ []
+
+-- 7: a day is wrong
+unfoldable pub atNumber7 : List Boundary
+atNumber7 =
+    (callOpen 2 0 0 852 0 on britain gives 7)
+    ∷ (callOpen 2 0 0 0 852 on britain gives 7)
+    ∷ (callOpen 2 0 0 851 851 on britain gives 0)
+    ∷ (callOpen 2 0 1 1 0 on britain gives 7)
+    ∷ (callOpen 2 0 1 0 1 on britain gives 7)
+    ∷ (callCert 0 1 485 on britain gives 7)
+    ∷ (callCert 0 1 486 on britain gives 0)
+    ∷ (callCert 0 1 851 on britain gives 0)
+    ∷ (callCert 0 1 852 on britain gives 7)
+    ∷ (callCert 0 2 510 on britain gives 7)
+    ∷ (callCert 0 2 511 on britain gives 0)
+    ∷ (callCert 0 0 1 on britain gives 7)
+    ∷ (callCert 0 0 0 on britain gives 0)
+    ∷ (callBill (request 0 485 499 1 1 1) on britain gives 7)
+    ∷ (callBill (request 0 486 499 1 1 1) on britain gives 0)
+    ∷ (callBill (request 0 851 852 1 1 1) on britain gives 7)
+    ∷ (callBill (request 0 851 851 1 1 1) on britain gives 0)
+    ∷ (callBill (request 0 499 498 1 1 1) on britain gives 7)
+    ∷ []
+
+-- 8: kWh is above 100,000,000, S or WAP above 999,999, or a WAP not 0 where it must be
+unfoldable pub atNumber8 : List Boundary
+atNumber8 =
+    (callBill (request 0 486 499 100000001 1 1) on britain gives 8)
+    ∷ (callBill (request 0 486 499 1 1000000 1) on britain gives 8)
+    ∷ (callBill (request 0 486 499 1 1 1000000) on britain gives 8)
+    ∷ (callBill (request 0 486 499 100000000 999999 999999) on britain gives 0)
+    ∷ (callBill (withBook april (request 1 486 515 1 1 1)) on britain gives 8)
+    ∷ []
+
+-- 9: no row of that contract has that first day
+unfoldable pub atNumber9 : List Boundary
+atNumber9 =
+    (callCancel 0 501 on britain gives 9)
+    ∷ (callCancel 1 500 on britain gives 9)
+    ∷ (callCancel 0 500 on britain gives 0)
+    ∷ (callRebill (request 0 501 501 1 1 1) on britain gives 9)
+    ∷ []
+
+-- 10: another row of the contract shares a day with the span
+unfoldable pub atNumber10 : List Boundary
+atNumber10 =
+    (callBill (request 0 510 599 1 1 1) on britain gives 10)
+    ∷ (callBill (request 0 511 600 1 1 1) on britain gives 10)
+    ∷ (callBill (request 0 511 599 1 1 1) on britain gives 0)
+    ∷ (callRebill (request 0 500 600 1 1 1) on britain gives 10)
+    ∷ (callRebill (request 0 500 599 1 1 1) on britain gives 0)
+    ∷ []
+
+-- 11: the book's price needed is 0; a flexible contract needs none
+unfoldable pub atNumber11 : List Boundary
+atNumber11 =
+    (callBill (withBook april (request 1 516 545 1 1 0)) on britain gives 11)
+    ∷ (callBill (withBook april (request 1 515 515 1 1 0)) on britain gives 0)
+    ∷ (callBill (request 0 486 499 1 1 0) on britain gives 0)
+    ∷ []
+
+-- 12: 1,024 rows are held already
+unfoldable pub atNumber12 : List Boundary
+atNumber12 = (callBill (request 0 486 499 1 1 1) on holding 1024 gives 12) ∷ (callBill (request 0 486 499 1 1 1) on holding 1023 gives 0) ∷ []
+
+-- 13: 1,000 claims were made already
+unfoldable pub atNumber13 : List Boundary
+atNumber13 = (callClaim on claiming 1000 gives 13) ∷ (callClaim on claiming 999 gives 0) ∷ []
+
+-- the number that turns the call down is the one given
+unfoldable pub asGiven : Boundary → Bool
+asGiven e = eqb (refusal document01 (view (e .sheet)) (e .call)) (e .number)
+
+abbrev pub AtTheBoundaries : Type 0
+AtTheBoundaries = All
+    (λ table. every (map asGiven table) ≡ true)
+    (atNumber3 ∷ atNumber4 ∷ atNumber5 ∷ atNumber6 ∷ atNumber7 ∷ atNumber8 ∷ atNumber9 ∷ atNumber10 ∷ atNumber11 ∷ atNumber12 ∷ atNumber13 ∷ [])

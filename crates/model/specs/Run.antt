@@ -1,0 +1,46 @@
+-- Document 01, "The program and one run": the run's ten calls as a history of a Great Britain ledger, and its ten answers. Assumes nothing.
+use mathlib.Core.Path.{_≡_}
+use mathlib.Core.List.{List, [], _∷_}
+use Prim.Native.Nat.{ℕ}
+use lib.ListN.{replicate}
+use lib.IntN.{pos, negℤ}
+use Rattle.model.specs.declared.Answer.{Answer}
+use Rattle.model.specs.declared.Answer.the-variants.{Refused, Done, Billed, Rebilled, Certified, Cancelled, Claimed, Totalled}
+use Rattle.model.specs.Calls.{Call, callOpen, callBill, callRebill, callCert, callCancel, callClaim, callTotal, BillRequest}
+use Rattle.model.specs.Document01.{document01}
+use Rattle.model.specs.History.{answersTo, ledgerMachine}
+
+-- a bill or rebill of the run, with a book of zeros
+unfoldable pub request : (contract first last kwh supply wap : ℕ) → BillRequest
+request c first last kwh s wap = record { contract = c; first = first; last = last; kwh = kwh; supply = s; wap = wap; book = replicate 1740 0 }
+
+unfoldable pub runCalls : List Call
+runCalls =
+    callOpen 0 0 2 0 0
+    ∷ callBill (request 0 486 515 1000 67030 31980)
+    ∷ callClaim
+    ∷ callCert 0 1 486
+    ∷ callClaim
+    ∷ callRebill (request 0 486 515 901 67030 31980)
+    ∷ callClaim
+    ∷ callCancel 0 486
+    ∷ callTotal
+    ∷ callBill (request 64 486 515 1 1 1)
+    ∷ []
+
+unfoldable pub runAnswers : List Answer
+runAnswers =
+    Done
+    ∷ Billed 31980 17800 17800000
+    ∷ Claimed (pos 1780) 0
+    ∷ Certified (pos 49840000) 1
+    ∷ Claimed (pos 4984) 0
+    ∷ Rebilled 31980 67640 (negℤ (pos 6696360))
+    ∷ Claimed (negℤ (pos 670)) 3640
+    ∷ Cancelled (negℤ (pos 60943640))
+    ∷ Totalled 0 (negℤ (pos 60940000))
+    ∷ Refused 4
+    ∷ []
+
+abbrev pub TheRun : Type 0
+TheRun = answersTo (ledgerMachine document01) 0 runCalls ≡ runAnswers
