@@ -1,2 +1,0 @@
--- What the check and the search of a packed ledger find.
-pub mod Check

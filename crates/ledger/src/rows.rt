@@ -1,1 +1,0 @@
-// Rows by their place, and the first row that passes a test.
