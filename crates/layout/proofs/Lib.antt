@@ -2,4 +2,5 @@
 pub mod Order
 pub mod LayoutLaws
 pub mod RoundTrips
+pub mod Changes
 pub mod PackedLedger

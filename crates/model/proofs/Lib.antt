@@ -4,6 +4,7 @@ pub mod Codes
 pub mod AcceptedBill
 pub mod RulesLaws
 pub mod Document01
+pub mod Places
 pub mod RowSums
 pub mod RowOrder
 pub mod Runs

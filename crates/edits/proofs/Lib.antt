@@ -1,0 +1,3 @@
+-- What the edits of the bytes do to the facts that the bytes hold.
+pub mod Parts
+pub mod PackedChanges

@@ -1,0 +1,2 @@
+-- Where the parts of the packed ledger stand.
+pub mod Offsets

@@ -1,0 +1,76 @@
+// Edits of the packed ledger's bytes: a row is inserted, removed or replaced, a contract is written, and a fresh ledger is made.
+use codec::contracts::pack_contract;
+use codec::header::write_header;
+use codec::rows::pack_row;
+use model::Row;
+use rates::Contract;
+ghost use mathlib.Core.Path.{_≡_};
+ghost use Prim.Native.Nat.{_+_, _*_, _≤_, _<_};
+ghost use lib.ListN.{length};
+ghost use Rattle.fields.specs.Fields.{Fit};
+ghost use Rattle.records.specs.Edits.{insertAt, removeAt, replaceAt, onPart};
+ghost use Rattle.model.specs.Document01.{document01};
+ghost use Rattle.model.specs.Ledger.{fresh};
+ghost use Rattle.layout.specs.Layout.{rowCount, bytesOf};
+ghost use Rattle.layout.specs.PackedLedger.{contractKind, rowKind, packedLayout};
+ghost use Rattle.codec.specs.Slots.{recordBytes};
+ghost use Rattle.edits.specs.Offsets.{ledgerLength, firstContract, contractLength, contractCount, firstRow, rowLength};
+
+// The byte at which the contracts begin.
+const FIRST_CONTRACT: usize = 8;
+
+// How many bytes a contract takes.
+const CONTRACT_LENGTH: usize = 5;
+
+// The byte at which the rows begin.
+const FIRST_ROW: usize = 328;
+
+// How many bytes a row takes.
+const ROW_LENGTH: usize = 18;
+
+// Of the `rows` held rows, those from row i on move up, and the row comes in at place i.
+pub fn insert_row(b: &mut [u8], rows: usize, i: usize, row: Row)
+    requires { ⌜ (length (now b) ≡ ledgerLength) × ((i ≤ rows) × ((rows < rowCount) × Fit (rowKind .widths) (rowKind .values row))) ⌝ }
+    ensures { λ _. ⌜ now (b .exit) ≡ onPart firstRow (firstRow + (rows + 1) * rowLength) (insertAt (i * rowLength) (recordBytes rowKind row)) (now (b .entry)) ⌝ }
+{
+    let mut slot = [0u8; ROW_LENGTH];
+    pack_row(&mut slot, row);
+    let end = FIRST_ROW + (rows + 1) * ROW_LENGTH;
+    records::insert(&mut b[FIRST_ROW..end], i * ROW_LENGTH, &slot);
+}
+
+// Of the `rows` held rows, row i goes, those after it move down, and the last slot is free.
+pub fn remove_row(b: &mut [u8], rows: usize, i: usize)
+    requires { ⌜ (length (now b) ≡ ledgerLength) × ((i < rows) × (rows ≤ rowCount)) ⌝ }
+    ensures { λ _. ⌜ now (b .exit) ≡ onPart firstRow (firstRow + rows * rowLength) (removeAt (i * rowLength) rowLength) (now (b .entry)) ⌝ }
+{
+    let end = FIRST_ROW + rows * ROW_LENGTH;
+    records::remove(&mut b[FIRST_ROW..end], i * ROW_LENGTH, ROW_LENGTH);
+}
+
+// Writes the row in the place of row i.
+pub fn replace_row(b: &mut [u8], i: usize, row: Row)
+    requires { ⌜ (length (now b) ≡ ledgerLength) × ((i < rowCount) × Fit (rowKind .widths) (rowKind .values row)) ⌝ }
+    ensures { λ _. ⌜ now (b .exit) ≡ replaceAt (firstRow + i * rowLength) (recordBytes rowKind row) (now (b .entry)) ⌝ }
+{
+    let at = FIRST_ROW + i * ROW_LENGTH;
+    pack_row(&mut b[at..at + ROW_LENGTH], row);
+}
+
+// Writes the contract under the number c, whether or not that number was open.
+pub fn write_contract(b: &mut [u8], c: usize, contract: Contract)
+    requires { ⌜ (length (now b) ≡ ledgerLength) × ((c < contractCount) × Fit (contractKind .widths) (contractKind .values contract)) ⌝ }
+    ensures { λ _. ⌜ now (b .exit) ≡ replaceAt (firstContract + c * contractLength) (recordBytes contractKind contract) (now (b .entry)) ⌝ }
+{
+    let at = FIRST_CONTRACT + c * CONTRACT_LENGTH;
+    pack_contract(&mut b[at..at + CONTRACT_LENGTH], contract);
+}
+
+// Makes the bytes a fresh ledger, whatever they were.
+pub fn fresh(b: &mut [u8], territory: u32)
+    requires { ⌜ (length (now b) ≡ ledgerLength) × (territory ≤ 1) ⌝ }
+    ensures { λ _. ⌜ now (b .exit) ≡ bytesOf document01 packedLayout (fresh territory) ⌝ }
+{
+    records::clear(b);
+    write_header(b, territory, 0, 0);
+}
