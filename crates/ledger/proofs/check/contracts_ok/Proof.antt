@@ -1,0 +1,111 @@
+-- `contracts_ok` tests each slot: those before the one at hand pass.
+use mathlib.Core.Path.{_≡_, sym, ap, _∙_, subst}
+use mathlib.Core.Bool.{Bool, true, false}
+use mathlib.Core.List.{List}
+use Prim.Native.Nat.{ℕ, _+_, _-_, _*_, _≤_, _<_}
+use native.Mathlib.Nat.{not-suc-le-zero}
+use native.Mathlib.Omega.{arith}
+use borrow.Author.Count.{below-more}
+use lib.ListN.{take, drop}
+use Rattle.basics.proofs.Tests.{not-yes, not-no}
+use Rattle.records.specs.Slots.{slotOk}
+use Rattle.model.specs.Document01.{document01}
+use Rattle.layout.specs.Layout.{territoryIn}
+use Rattle.layout.specs.PackedLedger.{contractKind, rangesOf, packedLayout}
+use Rattle.codec.specs.Slots.{slotNumbers}
+use Rattle.ledger.proofs.Access.{contracts-pass, contracts-fail}
+use borrow.Author.Needs.{needs}
+use Rattle.ledger.proofs.check.contracts_ok.Statement.{statement}
+use Rattle.ledger.proofs.check.contracts_ok.Tie as tie
+
+-- the test of contract slot c
+abbrev tested : ℕ → List ℕ → ℕ → Bool
+tested territory b c = slotOk contractKind (rangesOf territory) (slotNumbers contractKind (take 5 (drop (8 + c * 5) b)))
+
+abbrev Inv-loop : tie.InvT-loop
+Inv-loop b territory c₀ c =
+    (c ≤ 64) × ((territory ≡ territoryIn document01 packedLayout b) × ((i : ℕ) → i < c → tested territory b i ≡ true))
+
+abbrev μ-loop : tie.MeasureT-loop
+μ-loop b territory c₀ c = 64 - c
+
+territory-requires : tie.Need-territory-requires Inv-loop μ-loop
+territory-requires c κs = search needs
+
+loop-holds : tie.Need-loop-holds Inv-loop μ-loop
+loop-holds c = (omega arith, (c .territory .ensures, λ i h. absurd (not-suc-le-zero h)))
+
+mul-at : tie.Need-mul-at Inv-loop μ-loop
+mul-at c = search needs
+
+add-at : tie.Need-add-at Inv-loop μ-loop
+add-at c = search needs
+
+add-slot-ok : tie.Need-add-slot-ok Inv-loop μ-loop
+add-slot-ok c = search needs
+
+sub-slot-ok : tie.Need-sub-slot-ok Inv-loop μ-loop
+sub-slot-ok c = search needs
+
+part-slot-ok-start : tie.Need-part-slot-ok-start Inv-loop μ-loop
+part-slot-ok-start c = search needs
+
+part-slot-ok-end : tie.Need-part-slot-ok-end Inv-loop μ-loop
+part-slot-ok-end c = search needs
+
+slot-ok-requires : tie.Need-slot-ok-requires Inv-loop μ-loop
+slot-ok-requires c κs = search needs
+
+-- what the call finds of the slot at hand
+found : (c : tie.After-slot-ok Inv-loop μ-loop) → c .slot-ok .result ≡ tested (c .before .before .before .before .territory .result) (c .before .before .before .before .before .before .args .b .now) (c .before .before .before .loop .c)
+found c =
+    let at = 8 + c .before .before .before .loop .c * 5 in
+    let five : at + 5 - at ≡ 5 = omega arith in
+    c .slot-ok .ensures
+    ∙ ap (λ (n : ℕ). slotOk contractKind (rangesOf (c .before .before .before .before .territory .result)) (slotNumbers contractKind (take n (drop at (c .before .before .before .before .before .before .args .b .now))))) five
+
+returns : tie.Need-returns Inv-loop μ-loop
+returns c =
+    let at-loop = c .before .before .before .before in
+    let start = at-loop .before .before .before in
+    sym (contracts-fail (start .args .b .now) (start .pre) _ (at-loop .loop .c) (c .before .before .before .loop-test .taken)
+    (subst (λ (t : ℕ). tested t (start .args .b .now) (at-loop .loop .c) ≡ false) (at-loop .loop .inv .1 .0) (sym (found (c .before)) ∙ not-yes _ (c .if1 .taken))))
+
+add-c : tie.Need-add-c Inv-loop μ-loop
+add-c c = search needs
+
+loop-less : tie.Need-loop-less Inv-loop μ-loop
+loop-less c = search needs
+
+loop-again : tie.Need-loop-again Inv-loop μ-loop
+loop-again c =
+    let inv = c .before .before .before .before .loop .inv in
+    (omega arith, (inv .1 .0, below-more _ _ (inv .1 .1) (sym (found (c .before)) ∙ not-no _ (c .if1 .left))))
+
+returns-2 : tie.Need-returns-2 Inv-loop μ-loop
+returns-2 c =
+    let at-loop = c .before in
+    let start = at-loop .before .before .before in
+    let inv = at-loop .loop .inv in
+    sym (contracts-pass (start .args .b .now) (start .pre) _ (λ i h. subst (λ (t : ℕ). tested t (start .args .b .now) i ≡ true) (inv .1 .0) (inv .1 .1 i (omega arith))))
+
+pub contracts-ok-spec : {M : Type 1} → statement M
+contracts-ok-spec =
+    tie.close
+    (tie.spec
+    Inv-loop
+    μ-loop
+    territory-requires
+    loop-holds
+    mul-at
+    add-at
+    add-slot-ok
+    sub-slot-ok
+    part-slot-ok-start
+    part-slot-ok-end
+    slot-ok-requires
+    returns
+    add-c
+    loop-less
+    loop-again
+    returns-2)

@@ -1,0 +1,54 @@
+-- `is_open` reads the first bit of the contract's slot.
+use mathlib.Core.Path.{_≡_, ap, _∙_}
+use Prim.Native.Nat.{ℕ, _+_, _-_, _*_}
+use native.Mathlib.Omega.{arith}
+use lib.ListN.{take, drop}
+use Rattle.layout.specs.PackedLedger.{contractKind}
+use Rattle.codec.specs.Slots.{isTaken}
+use Rattle.ledger.proofs.Access.{contract-open}
+use borrow.Author.Needs.{needs}
+use Rattle.ledger.proofs.contracts.is_open.Statement.{statement}
+use Rattle.ledger.proofs.contracts.is_open.Tie as tie
+
+mul-at : tie.Need-mul-at
+mul-at c = search needs
+
+add-at : tie.Need-add-at
+add-at c = search needs
+
+add-is-open : tie.Need-add-is-open
+add-is-open c = search needs
+
+sub-is-open : tie.Need-sub-is-open
+sub-is-open c = search needs
+
+part-is-open-start : tie.Need-part-is-open-start
+part-is-open-start c = search needs
+
+part-is-open-end : tie.Need-part-is-open-end
+part-is-open-end c = search needs
+
+is-open-requires : tie.Need-is-open-requires
+is-open-requires c κs = search needs
+
+returns : tie.Need-returns
+returns c =
+    let start = c .before .before .before in
+    let at = 8 + start .args .c * 5 in
+    let five : at + 5 - at ≡ 5 = omega arith in
+    c .is-open .ensures
+    ∙ ap (λ (n : ℕ). isTaken contractKind (take n (drop at (start .args .b .now)))) five
+    ∙ contract-open (start .args .b .now) (start .args .c) (start .pre .0) (start .pre .1)
+
+pub is-open-spec : {M : Type 1} → statement M
+is-open-spec =
+    tie.close
+    (tie.spec
+    mul-at
+    add-at
+    add-is-open
+    sub-is-open
+    part-is-open-start
+    part-is-open-end
+    is-open-requires
+    returns)

@@ -1,0 +1,16 @@
+-- `named` is the test of a row's contract and first day.
+use borrow.Author.Tests.{eq-eqb, ne-eqb}
+use Rattle.model.specs.Calls.{named}
+use Rattle.ledger.proofs.rows.named.Statement.{statement}
+use Rattle.ledger.proofs.rows.named.Tie as tie
+
+returns : tie.Need-returns
+unfolding named
+returns c = simp (eq-eqb _ _ (c .before .if1 .taken))
+
+returns-2 : tie.Need-returns-2
+unfolding named
+returns-2 c = simp (ne-eqb _ _ (c .if1 .left))
+
+pub named-spec : {M : Type 1} → statement M
+named-spec = tie.close (tie.spec returns returns-2)

@@ -1,0 +1,154 @@
+// The well-formed check: one pass over the contracts and the rows, each row unpacked once, with what the row before it leaves free.
+use crate::contracts::contract_at;
+use crate::contracts::is_open;
+use model::Row;
+ghost use mathlib.Core.Path.{_≡_};
+ghost use mathlib.Core.Bool.{_&&_};
+ghost use mathlib.Core.List.{map};
+ghost use Prim.Native.Nat.{_+_, _*_, _<_, _≤_};
+ghost use lib.ListN.{length, drop};
+ghost use Rattle.basics.specs.Tests.{every};
+ghost use Rattle.records.specs.Slots.{slotOk, slots};
+ghost use Rattle.model.specs.Document01.{document01};
+ghost use Rattle.layout.specs.Layout.{contractsIn, contractTest, rowOk};
+ghost use Rattle.layout.specs.PackedLedger.{contractKind, rowKind, packedLayout};
+ghost use Rattle.ledger.specs.Check.{checkedOf, headerOk, rowSlotAt, rowCheckOf, rowsCheckedOf};
+
+// What the check finds: how many rows are held, and the sum of their amounts.
+pub enum Checked {
+    Malformed,
+    WellFormed { rows: u32, due: u64 },
+}
+
+// What the check of one row finds: the slot is free; or the row is not as it must be; or the first contract and day, as one number,
+// that the next row may have, and the row's amount.
+enum RowCheck {
+    Free,
+    Bad,
+    Good { next: u32, amount: u64 },
+}
+
+// Claims at most 1,000, and no pence where no claim was made.
+fn header_ok(b: &[u8]) -> bool
+    requires { ⌜ 8 ≤ length (now b) ⌝ }
+    ensures { λ r. ⌜ r ≡ headerOk (now (b .entry)) ⌝ }
+{
+    let claims = codec::header::claims(b);
+    if 1000 < claims {
+        return false;
+    }
+    if claims == 0 {
+        return codec::header::pence(b) == 0;
+    }
+    true
+}
+
+// Each contract's slot is as it must be.
+fn contracts_ok(b: &[u8]) -> bool
+    requires { ⌜ length (now b) ≡ 18760 ⌝ }
+    ensures { λ r. ⌜ r ≡ every (map (slotOk contractKind (contractTest document01 packedLayout (now (b .entry)))) (slots contractKind 64 (drop 8 (now (b .entry))))) ⌝ }
+{
+    let territory = codec::header::territory(b);
+    let mut c: usize = 0;
+    while c < 64 {
+        let at = 8 + c * 5;
+        if !codec::contracts::slot_ok(&b[at..at + 5], territory) {
+            return false;
+        }
+        c += 1;
+    }
+    true
+}
+
+// A row keeps the ranges under its open contract, and its amount is its part of due.
+fn row_ok(b: &[u8], row: Row) -> bool
+    requires { ⌜ (length (now b) ≡ 18760) × (row .bill .contract < 64) ⌝ }
+    ensures { λ r. ⌜ r ≡ rowOk document01 (contractsIn document01 packedLayout (now (b .entry))) row ⌝ }
+{
+    let bill = row.bill;
+    let c = bill.contract as usize;
+    if !is_open(b, c) {
+        return false;
+    }
+    let contract = contract_at(b, c);
+    if !codec::ranges::bill_ok(contract, bill) {
+        return false;
+    }
+    if row.amount == rates::amount(contract, bill) {
+        return true;
+    }
+    false
+}
+
+// The check of row i, whose contract and first day, as one number, are to be `least` or more.
+fn check_row(b: &[u8], i: usize, least: u32) -> RowCheck
+    requires { ⌜ (length (now b) ≡ 18760) × (i < 1024) ⌝ }
+    ensures { λ r. ⌜ r ≡ rowCheckOf (contractsIn document01 packedLayout (now (b .entry))) least (rowSlotAt (now (b .entry)) i) ⌝ }
+{
+    let at = 328 + i * 18;
+    let slot = &b[at..at + 18];
+    if !codec::rows::is_held(slot) {
+        return RowCheck::Free;
+    }
+    let row = codec::rows::unpack_row(slot);
+    if !row_ok(b, row) {
+        return RowCheck::Bad;
+    }
+    let bill = row.bill;
+    if bill.contract * 1024 + bill.first < least {
+        return RowCheck::Bad;
+    }
+    RowCheck::Good {
+        next: bill.contract * 1024 + bill.last + 1,
+        amount: row.amount,
+    }
+}
+
+// The check of all rows.
+fn check_rows(b: &[u8]) -> Checked
+    requires { ⌜ length (now b) ≡ 18760 ⌝ }
+    ensures { λ r. ⌜ r ≡ rowsCheckedOf (now (b .entry)) ⌝ }
+{
+    let mut i: usize = 0;
+    let mut least: u32 = 0;
+    let mut due: u64 = 0;
+    while i < 1024 {
+        let found = check_row(b, i, least);
+        match found {
+            RowCheck::Free => {
+                if records::is_zero(b, 328 + i * 18, 18432 - i * 18) {
+                    return Checked::WellFormed {
+                        rows: i as u32,
+                        due,
+                    };
+                }
+                return Checked::Malformed;
+            }
+            RowCheck::Bad => {
+                return Checked::Malformed;
+            }
+            RowCheck::Good { next, amount } => {
+                least = next;
+                due = due + amount;
+            }
+        }
+        i += 1;
+    }
+    Checked::WellFormed { rows: 1024, due }
+}
+
+// Whether bytes are a well-formed ledger, with the number of its rows and the sum of their amounts.
+pub fn check(b: &[u8]) -> Checked
+    ensures { λ r. ⌜ r ≡ checkedOf (now (b .entry)) ⌝ }
+{
+    if b.len() != 18760 {
+        return Checked::Malformed;
+    }
+    if !header_ok(b) {
+        return Checked::Malformed;
+    }
+    if !contracts_ok(b) {
+        return Checked::Malformed;
+    }
+    check_rows(b)
+}

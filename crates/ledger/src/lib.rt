@@ -1,0 +1,4 @@
+// The packed ledger read: the well-formed check, open contracts, and rows found by a test.
+pub mod check;
+pub mod contracts;
+pub mod rows;
