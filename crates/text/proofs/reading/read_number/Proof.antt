@@ -1,0 +1,78 @@
+-- `read_number` meets its contract: each test of the length and of the first byte as the definition has it, and then the
+-- value of the digits.
+use mathlib.Core.Path.{_≡_, sym, ap, _∙_}
+use mathlib.Core.Logic.{⊎-elim}
+use borrow.Author.Needs.{needs}
+use borrow.Author.Tests.{eq-eqb, ne-eqb, lt-ltb, le-ltb}
+use Rattle.text.specs.declared.reading.Parsed.{Parsed}
+use Rattle.text.specs.Numbers.{numberOf, asNumber, decimalValue}
+use Rattle.text.proofs.reading.read_number.Statement.{statement}
+use Rattle.text.proofs.reading.read_number.Tie as tie
+
+-- past the tests on the length and the first byte, the number is the value of the digits, if that is small enough
+by-value : (c : tie.Joined3) {x : Parsed} → x ≡ asNumber (decimalValue 0 (c .before .before .before .before .args .word .now)) → x ≡ numberOf (c .before .before .before .before .args .word .now)
+unfolding numberOf
+by-value c h =
+    h
+    ∙ simp (ne-eqb _ _ (c .before .before .if1 .left), le-ltb _ _ (c .before .if2 .left))
+    (⊎-elim (λ w. simp (lt-ltb _ _ (w .0 .taken), ne-eqb _ _ (w .2 .left))) (λ w. simp (le-ltb _ _ (w .left))) (c .if3 .came))
+
+returns : tie.Need-returns
+unfolding numberOf
+returns c = simp (c .if1 .taken)
+
+returns-2 : tie.Need-returns-2
+unfolding numberOf
+returns-2 c = simp (ne-eqb _ _ (c .before .if1 .left), lt-ltb _ _ (c .if2 .taken))
+
+shared-slice-read-if4 : tie.Need-shared-slice-read-if4
+shared-slice-read-if4 c = search needs
+
+returns-3 : tie.Need-returns-3
+unfolding numberOf
+returns-3 c =
+    let e = c .before .before .before in
+    simp (ne-eqb _ _ (e .before .if1 .left), le-ltb _ _ (e .if2 .left), lt-ltb _ _ (c .before .before .if3 .taken), eq-eqb _ _ (c .if4 .taken))
+
+decimal-value-requires : tie.Need-decimal-value-requires
+decimal-value-requires c κs = search needs
+
+enum-known-value : tie.Need-enum-known-value
+enum-known-value c = search needs
+
+enum-told : tie.Need-enum-told
+enum-told c = search needs
+
+returns-4 : tie.Need-returns-4
+returns-4 c =
+    let v = c .before .before in
+    by-value (v .before) (ap asNumber (sym (c .enum-told .given .1) ∙ v .decimal-value .ensures))
+
+returns-5 : tie.Need-returns-5
+returns-5 c =
+    let v = c .before .before .before .before in
+    by-value (v .before) (rw (← v .decimal-value .ensures, c .before .before .value .given .1, lt-ltb _ _ (c .if5 .taken)))
+
+cast-t9 : tie.Need-cast-t9
+cast-t9 c = search needs
+
+returns-6 : tie.Need-returns-6
+returns-6 c =
+    let v = c .before .before .before .before in
+    by-value (v .before) (rw (← v .decimal-value .ensures, c .before .before .value .given .1, le-ltb _ _ (c .if5 .left)))
+
+pub read-number-spec : {M : Type 1} → statement M
+read-number-spec =
+    tie.close
+    (tie.spec
+    returns
+    returns-2
+    shared-slice-read-if4
+    returns-3
+    decimal-value-requires
+    enum-known-value
+    enum-told
+    returns-4
+    returns-5
+    cast-t9
+    returns-6)

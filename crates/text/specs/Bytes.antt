@@ -1,0 +1,22 @@
+-- Texts as lists of bytes.
+use mathlib.Core.List.{List, [], _∷_}
+use Prim.Native.Nat.{ℕ}
+use Prim.Native.Char.{Char, code}
+use Prim.Native.String.{String, [] as empty, _∷_ as _before_}
+
+-- the byte of a character in ASCII
+abbrev pub byte : Char → ℕ
+byte c = code c
+
+-- the bytes of a text in ASCII
+abbrev pub bytes : String → List ℕ
+bytes empty = []
+bytes (c before s) = byte c ∷ bytes s
+
+-- what stands between two words of a line
+abbrev pub space : ℕ
+space = byte " "
+
+-- what ends a line
+abbrev pub lineFeed : ℕ
+lineFeed = byte "\n"

@@ -1,0 +1,255 @@
+// Reading: a line as a command.
+use crate::pieces::Found;
+use crate::pieces::find;
+use crate::pieces::find_word;
+ghost use mathlib.Core.Path.{_≡_};
+ghost use Prim.Native.Nat.{_≤_, _<_};
+ghost use lib.ListN.{length, take};
+ghost use Rattle.text.specs.Bytes.{space};
+ghost use Rattle.text.specs.Pieces.{piecesAfter};
+ghost use Rattle.text.specs.Numbers.{decimalValue, numberOf, numbersOf};
+ghost use Rattle.text.specs.Commands.{forms, mostNumbers, commandOf};
+ghost use Rattle.text.specs.ReadingSteps.{exactly, numbersIf, formAt, commandFrom};
+
+// What a line asks for: a call with its numbers.
+pub enum Command {
+    Start {
+        territory: u32,
+    },
+    Open {
+        contract: u32,
+        fuel: u32,
+        kind: u32,
+        price_fix_day: u32,
+        entry_day: u32,
+    },
+    Bill {
+        contract: u32,
+        first: u32,
+        last: u32,
+        kwh: u32,
+        supply: u32,
+        wap: u32,
+    },
+    Rebill {
+        contract: u32,
+        first: u32,
+        last: u32,
+        kwh: u32,
+        supply: u32,
+        wap: u32,
+    },
+    Cert {
+        contract: u32,
+        class: u32,
+        effective_day: u32,
+    },
+    Cancel {
+        contract: u32,
+        first: u32,
+    },
+    Claim,
+    Report {
+        contract: u32,
+    },
+    Total,
+    Day {
+        year: u32,
+        month: u32,
+        day: u32,
+    },
+    Date {
+        day: u32,
+    },
+    Price {
+        index: u32,
+        value: u32,
+    },
+    // A line that can't be read.
+    Unreadable,
+}
+
+// The value of a word's digits.
+pub enum Decimal {
+    Value(u64),
+    NotDecimal,
+}
+
+// A word read as a number.
+pub enum Parsed {
+    Value(u32),
+    NotNumber,
+}
+
+// The table of names: the calls' names with single spaces between. A call's place in it is counted from 0.
+const NAMES: [u8; 68] = *b"start open bill rebill cert cancel claim report total day date price";
+
+// How many numbers the call at each place takes.
+const COUNTS: [usize; 12] = [1, 5, 6, 6, 3, 2, 0, 1, 0, 3, 1, 2];
+
+// No call takes more numbers.
+const MOST_NUMBERS: usize = 6;
+
+// The value of at most ten digits.
+fn decimal_value(word: &[u8]) -> Decimal
+    requires { ⌜ length (now word) ≤ 10 ⌝ }
+    ensures { λ r. ⌜ r ≡ decimalValue 0 (now (word .entry)) ⌝ }
+{
+    let mut value: u64 = 0;
+    let mut i: usize = 0;
+    while i < word.len() {
+        let digit = word[i];
+        if digit < b'0' {
+            return Decimal::NotDecimal;
+        }
+        if b'9' < digit {
+            return Decimal::NotDecimal;
+        }
+        value = value * 10 + (digit - b'0') as u64;
+        i += 1;
+    }
+    Decimal::Value(value)
+}
+
+// A word as a number.
+fn read_number(word: &[u8]) -> Parsed
+    ensures { λ r. ⌜ r ≡ numberOf (now (word .entry)) ⌝ }
+{
+    if word.len() == 0 {
+        return Parsed::NotNumber;
+    }
+    if 10 < word.len() {
+        return Parsed::NotNumber;
+    }
+    if 1 < word.len() {
+        if word[0] == b'0' {
+            return Parsed::NotNumber;
+        }
+    }
+    let Decimal::Value(value) = decimal_value(word) else {
+        return Parsed::NotNumber;
+    };
+    if 4294967295 < value {
+        return Parsed::NotNumber;
+    }
+    Parsed::Value(value as u32)
+}
+
+// Whether the words after the one that ends at `end` are `count` numbers, which `numbers` then starts with.
+fn read_numbers(line: &[u8], end: usize, count: usize, numbers: &mut [u32; MOST_NUMBERS]) -> bool
+    requires { ⌜ (end ≤ length (now line)) × ((count ≤ mostNumbers) × (length (now numbers) ≡ mostNumbers)) ⌝ }
+    ensures { λ r. ⌜ numbersIf r (take count (now (numbers .exit))) ≡ exactly count (numbersOf (piecesAfter space (now (line .entry)) end)) ⌝ }
+{
+    let mut last = end;
+    let mut k: usize = 0;
+    while k < count {
+        if last == line.len() {
+            return false;
+        }
+        let at = last + 1;
+        last = find(line, at, b' ');
+        let Parsed::Value(value) = read_number(&line[at..last]) else {
+            return false;
+        };
+        numbers[k] = value;
+        k += 1;
+    }
+    if last < line.len() {
+        return false;
+    }
+    true
+}
+
+// How many numbers the call at a place of the table of names takes.
+fn count_at(place: usize) -> usize
+    requires { ⌜ place < length forms ⌝ }
+    ensures { λ r. ⌜ r ≡ formAt place .count ⌝ }
+{
+    COUNTS[place]
+}
+
+// The command of a call from `claim` to `price`, by its place in the table of names, with the first of the numbers.
+fn later_command_at(place: usize, n: [u32; MOST_NUMBERS]) -> Command
+    requires { ⌜ 6 ≤ place ⌝ }
+    ensures { λ r. ⌜ r ≡ commandFrom (formAt place .count) (formAt place .make) n 0 ⌝ }
+{
+    let a = n[0];
+    let b = n[1];
+    let c = n[2];
+    match place {
+        6 => Command::Claim,
+        7 => Command::Report { contract: a },
+        8 => Command::Total,
+        9 => Command::Day {
+            year: a,
+            month: b,
+            day: c,
+        },
+        10 => Command::Date { day: a },
+        11 => Command::Price { index: a, value: b },
+        _ => Command::Unreadable,
+    }
+}
+
+// The command of a call, by its place in the table of names, with the first of the numbers.
+fn command_at(place: usize, n: [u32; MOST_NUMBERS]) -> Command
+    ensures { λ r. ⌜ r ≡ commandFrom (formAt place .count) (formAt place .make) n 0 ⌝ }
+{
+    let a = n[0];
+    let b = n[1];
+    let c = n[2];
+    let d = n[3];
+    let e = n[4];
+    let f = n[5];
+    match place {
+        0 => Command::Start { territory: a },
+        1 => Command::Open {
+            contract: a,
+            fuel: b,
+            kind: c,
+            price_fix_day: d,
+            entry_day: e,
+        },
+        2 => Command::Bill {
+            contract: a,
+            first: b,
+            last: c,
+            kwh: d,
+            supply: e,
+            wap: f,
+        },
+        3 => Command::Rebill {
+            contract: a,
+            first: b,
+            last: c,
+            kwh: d,
+            supply: e,
+            wap: f,
+        },
+        4 => Command::Cert {
+            contract: a,
+            class: b,
+            effective_day: c,
+        },
+        5 => Command::Cancel {
+            contract: a,
+            first: b,
+        },
+        _ => later_command_at(place, n),
+    }
+}
+
+// A line, without its line feed, as a command.
+pub fn read_command(line: &[u8]) -> Command
+    ensures { λ r. ⌜ r ≡ commandOf (now (line .entry)) ⌝ }
+{
+    let end = find(line, 0, b' ');
+    let Found::At(place) = find_word(&NAMES, &line[..end]) else {
+        return Command::Unreadable;
+    };
+    let mut numbers = [0u32; MOST_NUMBERS];
+    if !read_numbers(line, end, count_at(place), &mut numbers) {
+        return Command::Unreadable;
+    }
+    command_at(place, numbers)
+}

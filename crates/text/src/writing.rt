@@ -1,0 +1,130 @@
+// Writing: an answer as a line.
+ghost use mathlib.Core.Path.{_≡_};
+ghost use Prim.Native.Nat.{_+_, _≤_};
+ghost use lib.IntN.{natAbs};
+ghost use lib.ListN.{length};
+ghost use Rattle.text.specs.Numbers.{digits, isNegative, signed};
+ghost use Rattle.text.specs.Lines.{Wrote, WroteWithin, spacedNumber, wordsText, wordsRoom, lineText, lineRoom};
+
+// A number of an answer.
+pub enum Number {
+    Natural(u64),
+    Integer(i64),
+}
+
+// What a line says: refused with a number, or ok with no, one, two or three numbers.
+pub enum Line {
+    Refused(u32),
+    Ok,
+    Ok1(Number),
+    Ok2(Number, Number),
+    Ok3(Number, Number, Number),
+}
+
+// Writes the bytes of a text from `at` on.
+fn write_text(out: &mut [u8], at: usize, text: &[u8]) -> usize
+    requires { ⌜ at + length (now text) ≤ length (now out) ⌝ }
+    ensures { λ r. ⌜ Wrote (now (out .entry)) (now (out .exit)) at r (now (text .entry)) ⌝ }
+{
+    let mut i: usize = 0;
+    while i < text.len() {
+        out[at + i] = text[i];
+        i += 1;
+    }
+    at + i
+}
+
+// Writes the decimal digits of a number from `at` on.
+fn write_digits(out: &mut [u8], at: usize, x: u64) -> usize
+    requires { ⌜ at + length (digits x) ≤ length (now out) ⌝ }
+    ensures { λ r. ⌜ Wrote (now (out .entry)) (now (out .exit)) at r (digits x) ⌝ }
+{
+    if x < 10 {
+        out[at] = b'0' + x as u8;
+        return at + 1;
+    }
+    let p = write_digits(out, at, x / 10);
+    out[p] = b'0' + (x % 10) as u8;
+    p + 1
+}
+
+// Whether an integer is below zero.
+fn is_negative(x: i64) -> bool
+    ensures { λ r. ⌜ r ≡ isNegative x ⌝ }
+{
+    x < 0
+}
+
+// The absolute value of an integer. Below zero it is -(x + 1) + 1, which fits at the lowest i64 too.
+fn magnitude(x: i64) -> u64
+    ensures { λ r. ⌜ r ≡ natAbs x ⌝ }
+{
+    if x < 0 {
+        (0 - (x + 1)) as u64 + 1
+    } else {
+        x as u64
+    }
+}
+
+// Writes an integer in decimal from `at` on, with a minus sign before a negative one: at most 20 bytes.
+fn write_integer(out: &mut [u8], at: usize, x: i64) -> usize
+    requires { ⌜ at + 20 ≤ length (now out) ⌝ }
+    ensures { λ r. ⌜ WroteWithin 20 (now (out .entry)) (now (out .exit)) at r (signed x) ⌝ }
+{
+    let size = magnitude(x);
+    if is_negative(x) {
+        let p = write_text(out, at, b"-");
+        return write_digits(out, p, size);
+    }
+    write_digits(out, at, size)
+}
+
+// Writes a space and a number from `at` on: at most 21 bytes.
+fn write_number(out: &mut [u8], at: usize, number: Number) -> usize
+    requires { ⌜ at + 21 ≤ length (now out) ⌝ }
+    ensures { λ r. ⌜ WroteWithin 21 (now (out .entry)) (now (out .exit)) at r (spacedNumber number) ⌝ }
+{
+    let p = write_text(out, at, b" ");
+    match number {
+        Number::Natural(n) => write_digits(out, p, n),
+        Number::Integer(z) => write_integer(out, p, z),
+    }
+}
+
+// Writes a line without its line feed from `at` on.
+fn write_words(out: &mut [u8], at: usize, line: Line) -> usize
+    requires { ⌜ at + wordsRoom line ≤ length (now out) ⌝ }
+    ensures { λ r. ⌜ WroteWithin (wordsRoom line) (now (out .entry)) (now (out .exit)) at r (wordsText line) ⌝ }
+{
+    match line {
+        Line::Refused(n) => {
+            let p = write_text(out, at, b"refused ");
+            write_digits(out, p, n as u64)
+        }
+        Line::Ok => write_text(out, at, b"ok"),
+        Line::Ok1(a) => {
+            let p = write_text(out, at, b"ok");
+            write_number(out, p, a)
+        }
+        Line::Ok2(a, b) => {
+            let p = write_text(out, at, b"ok");
+            let q = write_number(out, p, a);
+            write_number(out, q, b)
+        }
+        Line::Ok3(a, b, c) => {
+            let p = write_text(out, at, b"ok");
+            let q = write_number(out, p, a);
+            let r = write_number(out, q, b);
+            write_number(out, r, c)
+        }
+    }
+}
+
+// Writes a line from `at` on, and gives the place after it.
+pub fn write_line(out: &mut [u8], at: usize, line: Line) -> usize
+    requires { ⌜ at + lineRoom line ≤ length (now out) ⌝ }
+    ensures { λ r. ⌜ WroteWithin (lineRoom line) (now (out .entry)) (now (out .exit)) at r (lineText line) ⌝ }
+{
+    let p = write_words(out, at, line);
+    write_text(out, p, b"\n")
+}
