@@ -1,0 +1,41 @@
+-- The test of a price book, from its length and its entries. Assumes nothing.
+use mathlib.Core.Path.{_≡_, refl}
+use mathlib.Core.Bool.{true, false}
+use mathlib.Core.List.{List, [], _∷_}
+use Prim.Native.Nat.{ℕ, zero, suc, _<_, _≤_}
+use native.Mathlib.Nat.{not-suc-le-zero, le-of-suc-le-suc}
+use native.Mathlib.Omega.{arith}
+use lib.Dec.{ltb}
+use lib.ListN.{length, getD}
+use Rattle.basics.specs.Lists.{count}
+use Rattle.basics.proofs.Tests.{yes-eq, no-eq, yes-lt}
+use Rattle.model.specs.Document01.{badBook}
+use borrow.Author.Tests.{le-ltb}
+
+-- an entry that is too high is counted, and none is where none is
+counted : (book : List ℕ) (i : ℕ) → i < length book → 999999 < getD book i 0 → 0 < count (ltb 999999) book
+counted [] i h k = absurd (not-suc-le-zero h)
+counted (x ∷ xs) zero h k = rw (yes-lt 999999 x k) (omega arith)
+counted (x ∷ xs) (suc i) h k = let c : 0 < count (ltb 999999) xs = counted xs i (le-of-suc-le-suc h) k in omega arith
+
+none-counted : (book : List ℕ) → ((i : ℕ) → i < length book → getD book i 0 ≤ 999999) → count (ltb 999999) book ≡ 0
+none-counted [] f = refl
+none-counted (x ∷ xs) f = let e : count (ltb 999999) xs ≡ 0 = none-counted xs (λ i h. f (suc i) (omega arith)) in rw (le-ltb 999999 x (f 0 (omega arith))) (omega arith)
+
+pub book-length : (book : List ℕ) → (length book ≡ 1740 → ⊥) → true ≡ badBook book
+unfolding badBook
+book-length book n = rw (no-eq (length book) 1740 n)
+
+pub book-high : (book : List ℕ) (i : ℕ) → length book ≡ 1740 → i < length book → 999999 < getD book i 0 → true ≡ badBook book
+unfolding badBook
+book-high book i l h k = rw (yes-eq (length book) 1740 l, yes-lt 0 (count (ltb 999999) book) (counted book i h k))
+
+pub book-good : (book : List ℕ) → length book ≡ 1740 → ((i : ℕ) → i < length book → getD book i 0 ≤ 999999) → false ≡ badBook book
+unfolding badBook
+book-good book l f = rw (yes-eq (length book) 1740 l, none-counted book f)
+
+-- an entry past the end
+pub entry-past : (book : List ℕ) (i : ℕ) → length book ≤ i → 0 ≡ getD book i 0
+entry-past [] i h = refl
+entry-past (x ∷ xs) zero h = absurd (not-suc-le-zero h)
+entry-past (x ∷ xs) (suc i) h = entry-past xs i (le-of-suc-le-suc h)

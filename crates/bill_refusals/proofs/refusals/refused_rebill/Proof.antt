@@ -1,0 +1,39 @@
+-- `refused_rebill` gives the first refusal of a rebill that fits: of those before, and then of the others.
+use mathlib.Core.Path.{sym, ap, _∙_}
+use mathlib.Core.Bool.{Bool, cond}
+use Rattle.basics.proofs.Tests.{yes-eq, no-eq}
+use Rattle.model.specs.Calls.{firstOf}
+use Rattle.bill_refusals.specs.Requests.{billRequest, sharedTests, rebillTests, viewOf}
+use Rattle.bill_refusals.proofs.Tests.{shared-passed, rebill-refusal}
+use borrow.Author.Needs.{needs}
+use Rattle.bill_refusals.proofs.refusals.refused_rebill.Statement.{statement}
+use Rattle.bill_refusals.proofs.refusals.refused_rebill.Tie as tie
+
+refused-request-requires : tie.Need-refused-request-requires
+refused-request-requires c κs = search needs
+
+refused-row-again-requires : tie.Need-refused-row-again-requires
+refused-row-again-requires c κs =
+    let start = c .before .before .before .before in
+    let passed = shared-passed (viewOf (start .args .b .now)) (billRequest (start .args .request) (start .args .book .now)) (sym (c .before .refused-request .ensures) ∙ c .if1 .taken) in
+    record { searched = start .pre; low = passed .0; open′ = passed .1 }
+
+returns : tie.Need-returns
+returns c =
+    let start = c .before .before .before .before .before in
+    let v = viewOf (start .args .b .now) in
+    let q = billRequest (start .args .request) (start .args .book .now) in
+    let none = sym (c .before .before .refused-request .ensures) ∙ c .before .if1 .taken in
+    c .refused-row-again .ensures ∙ sym (rebill-refusal v q ∙ ap (λ (p : Bool). cond p (firstOf (rebillTests v q)) (firstOf (sharedTests v q))) (yes-eq (firstOf (sharedTests v q)) 0 none))
+
+returns-2 : tie.Need-returns-2
+returns-2 c =
+    let start = c .before .before .before .before in
+    let v = viewOf (start .args .b .now) in
+    let q = billRequest (start .args .request) (start .args .book .now) in
+    c .before .refused-request .ensures
+    ∙ sym (rebill-refusal v q ∙ ap (λ (p : Bool). cond p (firstOf (rebillTests v q)) (firstOf (sharedTests v q))) (no-eq (firstOf (sharedTests v q)) 0 (λ z. c .if1 .left (c .before .refused-request .ensures ∙ z))))
+
+pub refused-rebill-spec : {M : Type 1} → statement M
+refused-rebill-spec =
+    tie.close (tie.spec refused-request-requires refused-row-again-requires returns returns-2)
