@@ -5,6 +5,7 @@ use mathlib.Core.List.{List}
 use Prim.Native.Nat.{ℕ, zero, suc, _≤_}
 use native.Mathlib.Omega.{arith}
 use lib.ListN.{length}
+use Rattle.model.specs.declared.Answer.{Answer}
 use Rattle.model.specs.declared.Answer.the-variants.{Refused}
 use Rattle.model.specs.Calls.{Call}
 use Rattle.model.specs.Rules.{refusal}
@@ -21,7 +22,7 @@ use Rattle.ledger.specs.Check.{checkedOf}
 use Rattle.ledger.specs.Rows.{Searched}
 
 -- what is answered and left
-pub record Answers (b : List ℕ) (c : Call) (a : Rattle.model.specs.declared.Answer.Answer) (after : List ℕ) : Type 0 where
+pub record Answers (b : List ℕ) (c : Call) (a : Answer) (after : List ℕ) : Type 0 where
   pub answered : packedMachine .answer b c ≡ a
   pub left : packedMachine .step b c ≡ after
 
@@ -82,3 +83,11 @@ module _ (b : List ℕ) where
           ap (λ (f : Bool). cond f (bytesUnlessRefused (refusal document01 (view l) c) (packed (step document01 l c)) b) b) e
           ∙ ap (λ (k : ℕ). bytesUnlessRefused k (packed (unlessRefused k l (accept document01 l c) .next)) b) r;
     }
+
+-- ---- as the contract of a call says it
+
+pub answered-and-left : {b after : List ℕ} {c : Call} {a : Answer} → Answers b c a after → (a ≡ packedMachine .answer b c) × (after ≡ packedMachine .step b c)
+answered-and-left x = (sym (x .answered), sym (x .left))
+
+pub malformed-refused : (b : List ℕ) (c : Call) → Malformed ≡ checkedOf b → Answers b c (Refused 2) b
+malformed-refused b c e = machine-malformed b c (check-malformed b e)

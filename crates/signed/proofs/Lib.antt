@@ -1,0 +1,2 @@
+-- Laws of signed differences.
+pub mod SignedDifferences
