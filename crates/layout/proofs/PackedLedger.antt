@@ -47,7 +47,7 @@ contract-numbers t fuel kind fix entry class effective e =
     let class-low : class ≤ 2 = lt-no 2 class (not-yes _ (q 2)) in
     rw (fuel-code fuel (low .0), kind-code kind fix entry (low .1), days .0, days .1, class-code class effective class-low, class-day class effective class-low (not-yes _ (q 3)))
 
-contract-fits : (t fuel kind fix entry class effective : ℕ) → contractRanges t fuel kind fix entry class effective ≡ true
+pub contract-fits : (t fuel kind fix entry class effective : ℕ) → contractRanges t fuel kind fix entry class effective ≡ true
     → Fit (contractKind .widths) (fuel ∷ kind ∷ fix ∷ entry ∷ class ∷ effective ∷ [])
 contract-fits t fuel kind fix entry class effective e =
     let q = contract-test t fuel kind fix entry class effective e in
@@ -69,7 +69,7 @@ contract-laws t = record {
 
 -- ---- rows
 
-row-fits : (cs : Contracts) (x : Row) → RowOk document01 cs x → Fit (rowKind .widths) (rowKind .values x)
+pub row-fits : (cs : Contracts) (x : Row) → RowOk document01 cs x → Fit (rowKind .widths) (rowKind .values x)
 unfolding partOfDue
 row-fits cs x o =
     let q = bill-test (contractAt cs (x .bill .contract)) (x .bill) (o .ranges) in

@@ -57,7 +57,7 @@ module _ (R : Rules) (ok : RulesLaws R) where
   unfolding partOfDue
   amount-low cs x o = omega (arith, o .part, ok .low _ (x .bill) (o .ranges))
 
-  new-row : (v : View) (b : BillRequest) → ((c : ℕ) → isOpen (v .contracts) c ≡ true → R .contractOk (v .territory) (contractAt (v .contracts) c) ≡ true) → Taken R v b → RowOk R (v .contracts) (priced R (contractAt (v .contracts) (b .contract)) (requestedBill (v .contracts) b))
+  pub new-row : (v : View) (b : BillRequest) → ((c : ℕ) → isOpen (v .contracts) c ≡ true → R .contractOk (v .territory) (contractAt (v .contracts) c) ≡ true) → Taken R v b → RowOk R (v .contracts) (priced R (contractAt (v .contracts) (b .contract)) (requestedBill (v .contracts) b))
   unfolding priced requestedBill partOfDue
   new-row v b g t = record { number = t .number; isOpened = t .isOpened; ranges = t .ranges (g (b .contract) (t .isOpened)); part = refl }
 

@@ -1,0 +1,2 @@
+-- What an accepted bill, rebill or cancellation has, answers and leaves.
+pub mod AcceptedRows

@@ -1,0 +1,97 @@
+// What an accepted bill, rebill or cancellation answers and leaves.
+use bill_refusals::Request;
+use bill_refusals::book;
+use ledger::contracts::contract_at;
+use ledger::rows::RowTest;
+use ledger::rows::first_row;
+use ledger::rows::row_at;
+use model::Answer;
+use model::Row;
+use rates::Bill;
+use rates::Contract;
+use signed::difference;
+ghost use mathlib.Core.Path.{_≡_};
+ghost use Prim.Native.Nat.{_≤_};
+ghost use Rattle.model.specs.Calls.{callBill, callRebill, callCancel};
+ghost use Rattle.model.specs.Ledger.{priced, accept};
+ghost use Rattle.model.specs.Document01.{document01};
+ghost use Rattle.layout.specs.Layout.{ledgerOf, bytesOf};
+ghost use Rattle.layout.specs.PackedLedger.{packedLayout};
+ghost use Rattle.bill_refusals.specs.Requests.{billRequest, billOf, Accepted};
+
+// The row of a request under its contract.
+fn row_of(contract: Contract, book: &[u32], request: Request) -> Row
+    requires { ⌜ (request .kwh ≤ 100000000) × (request .supply ≤ 999999) ⌝ }
+    ensures { λ r. ⌜ r ≡ priced document01 contract (billOf contract (billRequest request (now (book .entry)))) ⌝ }
+{
+    let bill = Bill {
+        contract: request.contract,
+        first: request.first,
+        last: request.last,
+        kwh: request.kwh,
+        reference: book::reference(contract, request.first, request.wap, book),
+        supply: request.supply,
+    };
+    Row {
+        bill,
+        amount: rates::amount(contract, bill),
+    }
+}
+
+// bill: the row goes in at its place.
+pub fn accept_bill(ledger: &mut [u8], rows: usize, book: &[u32], request: Request) -> Answer
+    requires { ⌜ Accepted (now ledger) rows (callBill (billRequest request (now book))) ⌝ }
+    ensures { λ r. ⌜ (r ≡ accept document01 (ledgerOf document01 packedLayout (now (ledger .entry))) (callBill (billRequest request (now (book .entry)))) .answers) × (now (ledger .exit) ≡ bytesOf document01 packedLayout (accept document01 (ledgerOf document01 packedLayout (now (ledger .entry))) (callBill (billRequest request (now (book .entry)))) .next)) ⌝ }
+{
+    let contract = contract_at(ledger, request.contract as usize);
+    let row = row_of(contract, book, request);
+    let bill = row.bill;
+    let rate = rates::rate(contract, bill);
+    let after = RowTest::After {
+        contract: request.contract,
+        first: request.first,
+    };
+    let place = first_row(ledger, rows, after);
+    edits::insert_row(ledger, rows, place, row);
+    Answer::Billed {
+        reference: bill.reference,
+        rate,
+        amount: row.amount,
+    }
+}
+
+// rebill: the row takes the place of the one with that contract and first day.
+pub fn accept_rebill(ledger: &mut [u8], rows: usize, book: &[u32], request: Request) -> Answer
+    requires { ⌜ Accepted (now ledger) rows (callRebill (billRequest request (now book))) ⌝ }
+    ensures { λ r. ⌜ (r ≡ accept document01 (ledgerOf document01 packedLayout (now (ledger .entry))) (callRebill (billRequest request (now (book .entry)))) .answers) × (now (ledger .exit) ≡ bytesOf document01 packedLayout (accept document01 (ledgerOf document01 packedLayout (now (ledger .entry))) (callRebill (billRequest request (now (book .entry)))) .next)) ⌝ }
+{
+    let contract = contract_at(ledger, request.contract as usize);
+    let row = row_of(contract, book, request);
+    let bill = row.bill;
+    let rate = rates::rate(contract, bill);
+    let same = RowTest::Named {
+        contract: request.contract,
+        first: request.first,
+    };
+    let place = first_row(ledger, rows, same);
+    let old = row_at(ledger, place);
+    edits::replace_row(ledger, place, row);
+    Answer::Rebilled {
+        reference: bill.reference,
+        rate,
+        change: difference(row.amount, old.amount),
+    }
+}
+
+// cancel: the row goes.
+pub fn accept_cancel(ledger: &mut [u8], rows: usize, contract: u32, first: u32) -> Answer
+    requires { ⌜ Accepted (now ledger) rows (callCancel contract first) ⌝ }
+    ensures { λ r. ⌜ (r ≡ accept document01 (ledgerOf document01 packedLayout (now (ledger .entry))) (callCancel contract first) .answers) × (now (ledger .exit) ≡ bytesOf document01 packedLayout (accept document01 (ledgerOf document01 packedLayout (now (ledger .entry))) (callCancel contract first) .next)) ⌝ }
+{
+    let place = first_row(ledger, rows, RowTest::Named { contract, first });
+    let old = row_at(ledger, place);
+    edits::remove_row(ledger, rows, place);
+    Answer::Cancelled {
+        change: difference(0, old.amount),
+    }
+}
