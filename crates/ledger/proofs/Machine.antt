@@ -91,3 +91,6 @@ answered-and-left x = (sym (x .answered), sym (x .left))
 
 pub malformed-refused : (b : List ℕ) (c : Call) → Malformed ≡ checkedOf b → Answers b c (Refused 2) b
 malformed-refused b c e = machine-malformed b c (check-malformed b e)
+
+pub number-refused : (b : List ℕ) (c : Call) {rows sum : ℕ} (n : ℕ) → Sound b rows sum → n ≡ refusal document01 (view (ledgerOf document01 packedLayout b)) c → (n ≡ 0 → ⊥) → Answers b c (Refused n) b
+number-refused b c n s e h = machine-refused b c (s .formed) n (omega arith) (sym e)

@@ -1,0 +1,31 @@
+-- Document 01, "Calls": start (territory), a fresh ledger over a buffer of any contents. Assumes nothing.
+use mathlib.Core.Bool.{not}
+use mathlib.Core.List.{List, [], _∷_}
+use Prim.Native.Nat.{ℕ, zero, suc}
+use lib.Dec.{ltb, eqb}
+use lib.ListN.{length}
+use Rattle.model.specs.declared.Answer.{Answer}
+use Rattle.model.specs.declared.Answer.the-variants.{Refused, Done}
+use Rattle.model.specs.Calls.{_if_, firstOf}
+use Rattle.model.specs.Document01.{document01}
+use Rattle.model.specs.Ledger.{fresh}
+use Rattle.model.specs.Format.{unlessRefused}
+use Rattle.layout.specs.Layout.{bytesOf}
+use Rattle.layout.specs.PackedLedger.{packedLayout}
+use Rattle.edits.specs.Offsets.{ledgerLength}
+
+-- the number that turns a start down: 2, the buffer isn't 18,760 bytes; 6, the territory code has no meaning
+unfoldable pub startRefusal : List ℕ → (territory : ℕ) → ℕ
+startRefusal b territory = firstOf ((2 if not (eqb (length b) ledgerLength)) ∷ (6 if ltb 1 territory) ∷ [])
+
+-- the answer of a call that answers no numbers, by the number that turns it down
+abbrev pub doneUnlessRefused : ℕ → Answer
+doneUnlessRefused zero = Done
+doneUnlessRefused (suc n) = Refused (suc n)
+
+unfoldable pub startAnswer : List ℕ → (territory : ℕ) → Answer
+startAnswer b territory = doneUnlessRefused (startRefusal b territory)
+
+-- the bytes left: a fresh ledger, with which a history begins, or the buffer as it was
+unfoldable pub startBytes : List ℕ → (territory : ℕ) → List ℕ
+startBytes b territory = unlessRefused (startRefusal b territory) (bytesOf document01 packedLayout (fresh territory)) b
