@@ -1,0 +1,78 @@
+-- The paper's run: its commands are read, its calls are answered as the model answers them, and the answers are printed. Assumes nothing.
+use mathlib.Core.Path.{_≡_, refl, ap, _∙_}
+use mathlib.Core.List.{List, [], _∷_, _++_, map}
+use Prim.Native.Nat.{ℕ}
+use native.Mathlib.Omega.{arith}
+use Rattle.text.specs.declared.reading.Command.{Command}
+use Rattle.text.specs.declared.writing.Line.{Line}
+use Rattle.text.specs.Pieces.{pieces, sameText}
+use Rattle.text.specs.Numbers.{digitsBy, digits, decimalValue, numberOf, numbersOf}
+use Rattle.text.specs.Commands.{formNamed, commandOf}
+use Rattle.text.specs.Lines.{lineText}
+use Rattle.model.specs.declared.Answer.{Answer}
+use Rattle.model.specs.Calls.{Call}
+use Rattle.model.specs.Document01.{document01}
+use Rattle.model.specs.History.{answersTo, ledgerMachine}
+use Rattle.model.specs.Run.{request, runCalls, runAnswers}
+use Rattle.model.proofs.Document01.{document01-laws}
+use Rattle.model.proofs.Refinement.{same-answers}
+use Rattle.model.proofs.BytesBalance.{bytes-refine}
+use Rattle.model.proofs.Run.{the-run}
+use Rattle.layout.specs.PackedLedger.{packedLedger}
+use Rattle.layout.specs.Theorems.{packedMachine}
+use Rattle.layout.proofs.PackedLedger.{packed-format}
+use Rattle.session.specs.AnswerLines.{lineOf}
+use Rattle.session.specs.Replies.{initial}
+use Rattle.session.specs.Transcript.{commandsOfPieces, commandsOf, inputCommands, exchanges, printed, transcript}
+use Rattle.session.specs.RunTranscript.{runInput, runOutput, TheRunIsPrinted}
+use Rattle.session.specs.SessionBalance.{emptyLog, logCommand, logOf}
+use Rattle.session.proofs.SessionBalance.{log-answers}
+
+runCommands : List Command
+runCommands =
+    Command.Open 0 0 2 0 0 ∷
+    Command.Bill 0 486 515 1000 67030 31980 ∷
+    Command.Claim ∷
+    Command.Cert 0 1 486 ∷
+    Command.Claim ∷
+    Command.Rebill 0 486 515 901 67030 31980 ∷
+    Command.Claim ∷
+    Command.Cancel 0 486 ∷
+    Command.Total ∷
+    Command.Bill 64 486 515 1 1 1 ∷
+    []
+
+run-read : inputCommands runInput ≡ runCommands
+unfolding runInput runCommands inputCommands commandsOf commandsOfPieces commandOf pieces sameText decimalValue numberOf numbersOf formNamed
+run-read = refl
+
+-- the text of lines
+linesText : List Line → List ℕ
+linesText [] = []
+linesText (line ∷ lines) = lineText line ++ linesText lines
+
+-- all lines of the run are lines of its history
+run-lines : printed (exchanges initial runCommands) ≡ linesText (logOf runCommands .lines)
+unfolding runCommands linesText printed logOf logCommand emptyLog
+run-lines = refl
+
+run-answers : logOf runCommands .lines ≡ map lineOf (answersTo packedMachine 0 runCalls)
+unfolding runCommands runCalls request logOf logCommand emptyLog
+run-answers = log-answers runCommands
+
+model-answers : answersTo packedMachine 0 runCalls ≡ runAnswers
+model-answers =
+    same-answers packedMachine (ledgerMachine document01) (bytes-refine document01 document01-laws packedLedger packed-format) 0 (omega arith) runCalls
+    ∙ the-run
+
+run-text : linesText (map lineOf runAnswers) ≡ runOutput
+unfolding runAnswers runOutput linesText digits digitsBy
+run-text = refl
+
+pub the-run-is-printed : TheRunIsPrinted
+unfolding transcript
+the-run-is-printed =
+    ap (λ (cs : List Command). printed (exchanges initial cs)) run-read
+    ∙ run-lines
+    ∙ ap linesText (run-answers ∙ ap (map lineOf) model-answers)
+    ∙ run-text

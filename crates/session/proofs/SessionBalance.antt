@@ -1,0 +1,134 @@
+-- Every session balances: the log read off its exchanges follows what the program holds, command by command. Assumes nothing.
+use mathlib.Core.Path.{_≡_, refl, sym, ap, ap₂, subst, _∙_}
+use mathlib.Core.Bool.{Bool, true, false, not, cond}
+use mathlib.Core.List.{List, [], _∷_, _++_, map, map-append}
+use Prim.Native.Nat.{ℕ, zero, suc, _≤_}
+use native.Mathlib.Omega.{arith}
+use borrow.Author.Tests.{ltb-false}
+use lib.Dec.{ltb, eqb}
+use lib.ListN.{length, set}
+use Rattle.text.specs.declared.reading.Command.{Command}
+use Rattle.text.specs.declared.writing.Line.{Line}
+use Rattle.model.specs.Calls.{Call, callOpen, callBill, callRebill, callCert, callCancel, callClaim, callReport, callTotal, _if_}
+use Rattle.model.specs.Document01.{document01}
+use Rattle.model.specs.Ledger.{fresh}
+use Rattle.model.specs.Format.{unlessRefused}
+use Rattle.model.specs.History.{run, replies, sheetAfter, stateAfter, answersTo}
+use Rattle.model.specs.Document01Balance.{BalancedByRates}
+use Rattle.model.proofs.Refusals.{clear}
+use Rattle.layout.specs.Layout.{bytesOf}
+use Rattle.layout.specs.PackedLedger.{packedLayout}
+use Rattle.layout.specs.Theorems.{packedMachine}
+use Rattle.layout.proofs.PackedLedger.{demand-three}
+use Rattle.edits.specs.Offsets.{ledgerLength}
+use Rattle.contract_calls.specs.Start.{startRefusal, doneUnlessRefused, startAnswer, startBytes}
+use Rattle.session.specs.AnswerLines.{lineOf}
+use Rattle.session.specs.Replies.{State, holding, initial, onLedger, request, badPrice, priceLine, bookWith, outcome, reply, next}
+use Rattle.session.specs.Transcript.{Exchange, exchanges, inputCommands}
+use Rattle.session.specs.SessionBalance.{Log, emptyLog, isOk, withCall, logCommand, logOf, stateAfterCommands, EverySessionBalances}
+
+-- ---- a list of inputs with one more
+module _ {S C : Type 0} (move : S → C → S) where
+  run-more : (cs : List C) (s : S) (c : C) → run move s (cs ++ (c ∷ [])) ≡ move (run move s cs) c
+  run-more [] s c = refl
+  run-more (d ∷ cs) s c = run-more cs (move s d) c
+
+  module _ {A : Type 0} (reply : S → C → A) where
+    replies-more : (cs : List C) (s : S) (c : C) → replies move reply s (cs ++ (c ∷ [])) ≡ replies move reply s cs ++ (reply (run move s cs) c ∷ [])
+    replies-more [] s c = refl
+    replies-more (d ∷ cs) s c = ap (λ (answers : List A). reply s d ∷ answers) (replies-more cs (move s d) c)
+
+-- ---- what the program holds and the log agree
+record Agrees (s : State) (l : Log) : Type 0 where
+  book : s .book ≡ l .book
+  territory : l .territory ≤ 1
+  bytes : s .ledger ≡ stateAfter packedMachine (l .territory) (l .history)
+  answers : l .lines ≡ map lineOf (answersTo packedMachine (l .territory) (l .history))
+
+module _ (s : State) (l : Log) (a : Agrees s l) where
+  -- after a call of the history
+  agrees-call : (c : Call) → Agrees (onLedger s c .next) (withCall l c (onLedger s c .line))
+  unfolding stateAfter answersTo
+  agrees-call c =
+      let t = l .territory in
+      let answered = replies (packedMachine .step) (packedMachine .answer) (packedMachine .start t) (l .history) in
+      let more = replies-more (packedMachine .step) (packedMachine .answer) (l .history) (packedMachine .start t) c in
+      record {
+        book = a .book;
+        territory = a .territory;
+        bytes = ap (λ (b : List ℕ). packedMachine .step b c) (a .bytes) ∙ sym (run-more (packedMachine .step) (l .history) (packedMachine .start t) c);
+        answers =
+            ap₂ (λ (ls : List Line) (b : List ℕ). ls ++ (lineOf (packedMachine .answer b c) ∷ [])) (a .answers) (a .bytes)
+            ∙ sym (ap (map lineOf) more ∙ map-append lineOf answered (packedMachine .answer (run (packedMachine .step) (packedMachine .start t) (l .history)) c ∷ []));
+      }
+
+  -- a bill or rebill comes with the program's book, which is the log's
+  agrees-request : (call : List ℕ → Call) → Agrees (onLedger s (call (s .book)) .next) (withCall l (call (l .book)) (onLedger s (call (s .book)) .line))
+  agrees-request call =
+      subst (λ (b : List ℕ). Agrees (onLedger s (call (s .book)) .next) (withCall l (call b) (onLedger s (call (s .book)) .line))) (a .book) (agrees-call (call (s .book)))
+
+  -- after a start, by the number that turns it down
+  start-territory : (t : ℕ) → startRefusal (s .ledger) t ≡ 0 → t ≤ 1
+  unfolding startRefusal
+  start-territory t e = ltb-false 1 t (clear ((2 if not (eqb (length (s .ledger)) ledgerLength)) ∷ (6 if ltb 1 t) ∷ []) tt e 6)
+
+  agrees-start-by : (t n : ℕ) → startRefusal (s .ledger) t ≡ n
+      → Agrees (holding (unlessRefused n (bytesOf document01 packedLayout (fresh t)) (s .ledger)) (s .book)) (cond (isOk (lineOf (doneUnlessRefused n))) (record { book = l .book; territory = t; history = []; lines = [] }) l)
+  unfolding stateAfter answersTo
+  agrees-start-by t zero e = record { book = a .book; territory = start-territory t e; bytes = refl; answers = refl }
+  agrees-start-by t (suc n) e = record { book = a .book; territory = a .territory; bytes = a .bytes; answers = a .answers }
+
+  -- after a price, by whether it is turned down
+  agrees-price-by : (index value : ℕ) (t : Bool) → Agrees (holding (s .ledger) (cond t (s .book) (set (s .book) index value)))
+      (cond (isOk (cond t (Line.Refused 8) Line.Ok)) (record { book = set (l .book) index value; territory = l .territory; history = l .history; lines = l .lines }) l)
+  agrees-price-by index value true = record { book = a .book; territory = a .territory; bytes = a .bytes; answers = a .answers }
+  agrees-price-by index value false =
+      record { book = ap (λ (b : List ℕ). set b index value) (a .book); territory = a .territory; bytes = a .bytes; answers = a .answers }
+
+  -- after any command
+  agrees-next : (c : Command) → Agrees (next s c) (logCommand l c (reply s c))
+  unfolding outcome logCommand startAnswer startBytes priceLine bookWith
+  agrees-next (Command.Start territory) = agrees-start-by territory (startRefusal (s .ledger) territory) refl
+  agrees-next (Command.Open c fuel kind fix entry) = agrees-call (callOpen c fuel kind fix entry)
+  agrees-next (Command.Bill c first last kwh supply wap) = agrees-request (λ b. callBill (request c first last kwh supply wap b))
+  agrees-next (Command.Rebill c first last kwh supply wap) = agrees-request (λ b. callRebill (request c first last kwh supply wap b))
+  agrees-next (Command.Cert c class effective) = agrees-call (callCert c class effective)
+  agrees-next (Command.Cancel c first) = agrees-call (callCancel c first)
+  agrees-next Command.Claim = agrees-call callClaim
+  agrees-next (Command.Report c) = agrees-call (callReport c)
+  agrees-next Command.Total = agrees-call callTotal
+  agrees-next (Command.Day year month day) = a
+  agrees-next (Command.Date day) = a
+  agrees-next (Command.Price index value) = agrees-price-by index value (badPrice index value)
+  agrees-next Command.Unreadable = a
+
+agrees-after : (cs : List Command) (s : State) (l : Log) → Agrees s l → Agrees (run next s cs) (run (λ (m : Log) (e : Exchange). logCommand m (e .command) (e .line)) l (exchanges s cs))
+agrees-after [] s l a = a
+agrees-after (c ∷ cs) s l a = agrees-after cs (next s c) (logCommand l c (reply s c)) (agrees-next s l a c)
+
+agrees-first : Agrees initial emptyLog
+unfolding initial emptyLog stateAfter answersTo
+agrees-first = record { book = refl; territory = omega arith; bytes = refl; answers = refl }
+
+agrees : (cs : List Command) → Agrees (stateAfterCommands cs) (logOf cs)
+unfolding stateAfterCommands logOf
+agrees cs = agrees-after cs initial emptyLog agrees-first
+
+-- the lines printed for the history's calls are those of its answers
+pub log-answers : (cs : List Command) → logOf cs .lines ≡ map lineOf (answersTo packedMachine (logOf cs .territory) (logOf cs .history))
+log-answers cs = agrees cs .answers
+
+pub every-session-balances : EverySessionBalances
+every-session-balances input =
+    let a = agrees (inputCommands input) in
+    let l = logOf (inputCommands input) in
+    record {
+      territory = a .territory;
+      bytes = a .bytes;
+      answers = a .answers;
+      balanced =
+          subst
+          (λ (b : List ℕ). BalancedByRates (sheetAfter document01 (l .territory) (l .history)) (answersTo packedMachine (l .territory) (l .history)) (packedMachine .answer b callTotal) (packedMachine .facts b .rows))
+          (sym (a .bytes))
+          (demand-three .balances (l .territory) (a .territory) (l .history));
+    }

@@ -1,0 +1,103 @@
+-- `line_of` gives the line of each case; an i64 is read back from its bits.
+use mir.Syntax.{w64}
+use mir.ValLaws.{toZ-ofZ}
+use borrow.Author.Needs.{needs}
+use Rattle.session.proofs.answers.line_of.Statement.{statement}
+use Rattle.session.proofs.answers.line_of.Tie as tie
+
+enum-known-answer : tie.Need-enum-known-answer
+enum-known-answer c = search needs
+
+enum-told : tie.Need-enum-told
+enum-told c = search needs
+
+enum-known-answer-2 : tie.Need-enum-known-answer-2
+enum-known-answer-2 c = search needs
+
+cast-t20 : tie.Need-cast-t20
+cast-t20 c = search needs
+
+enum-known-answer-3 : tie.Need-enum-known-answer-3
+enum-known-answer-3 c = search needs
+
+cast-t24 : tie.Need-cast-t24
+cast-t24 c = search needs
+
+enum-known-answer-4 : tie.Need-enum-known-answer-4
+enum-known-answer-4 c = search needs
+
+cast-t29 : tie.Need-cast-t29
+cast-t29 c = search needs
+
+enum-known-answer-5 : tie.Need-enum-known-answer-5
+enum-known-answer-5 c = search needs
+
+enum-known-answer-6 : tie.Need-enum-known-answer-6
+enum-known-answer-6 c = search needs
+
+cast-t33 : tie.Need-cast-t33
+cast-t33 c = search needs
+
+enum-known-answer-7 : tie.Need-enum-known-answer-7
+enum-known-answer-7 c = search needs
+
+cast-t35 : tie.Need-cast-t35
+cast-t35 c = search needs
+
+enum-known-answer-8 : tie.Need-enum-known-answer-8
+enum-known-answer-8 c = search needs
+
+returns : tie.Need-returns
+returns c = rw (c .before .answer .given .1)
+
+returns-2 : tie.Need-returns-2
+returns-2 c = search needs
+
+returns-3 : tie.Need-returns-3
+returns-3 c = rw (c .before .answer2 .given .1)
+
+returns-4 : tie.Need-returns-4
+returns-4 c = rw (c .before .answer3 .given .1, toZ-ofZ w64 _ (record { sfits = c .known-told3 .given .1 .1 .0 .1 }))
+
+returns-5 : tie.Need-returns-5
+returns-5 c = rw (c .before .answer4 .given .1, toZ-ofZ w64 _ (record { sfits = c .known-told4 .given .0 .1 }))
+
+returns-6 : tie.Need-returns-6
+returns-6 c = rw (c .before .answer5 .given .1, toZ-ofZ w64 _ (record { sfits = c .known-told5 .given .0 .1 }))
+
+returns-7 : tie.Need-returns-7
+returns-7 c = rw (c .before .answer6 .given .1, toZ-ofZ w64 _ (record { sfits = c .known-told6 .given .0 .1 }))
+
+returns-8 : tie.Need-returns-8
+returns-8 c = rw (c .before .answer7 .given .1)
+
+returns-9 : tie.Need-returns-9
+returns-9 c = rw (c .before .answer8 .given .1, toZ-ofZ w64 _ (record { sfits = c .known-told8 .given .1 .0 .1 }))
+
+pub line-of-spec : {M : Type 1} → statement M
+line-of-spec =
+    tie.close
+    (tie.spec
+    enum-known-answer
+    enum-told
+    enum-known-answer-2
+    cast-t20
+    enum-known-answer-3
+    cast-t24
+    enum-known-answer-4
+    cast-t29
+    enum-known-answer-5
+    enum-known-answer-6
+    cast-t33
+    enum-known-answer-7
+    cast-t35
+    enum-known-answer-8
+    returns
+    returns-2
+    returns-3
+    returns-4
+    returns-5
+    returns-6
+    returns-7
+    returns-8
+    returns-9)

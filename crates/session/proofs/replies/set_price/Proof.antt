@@ -1,0 +1,32 @@
+-- `set_price` tests the index and the value, and sets the entry where neither is too high.
+use mathlib.Core.Path.{refl}
+use borrow.Author.Tests.{lt-ltb, le-ltb}
+use Rattle.session.specs.Replies.{priceLine, bookWith}
+use borrow.Author.Needs.{needs}
+use Rattle.session.proofs.replies.set_price.Statement.{statement}
+use Rattle.session.proofs.replies.set_price.Tie as tie
+
+returns : tie.Need-returns
+unfolding priceLine bookWith
+returns c = simp (lt-ltb _ _ (c .if1 .taken)) (refl, refl)
+
+returns-2 : tie.Need-returns-2
+unfolding priceLine bookWith
+returns-2 c = simp (le-ltb _ _ (c .before .if1 .left), lt-ltb _ _ (c .if2 .taken)) (refl, refl)
+
+mul-book : tie.Need-mul-book
+mul-book c = search needs
+
+slice-write-book : tie.Need-slice-write-book
+slice-write-book c = search needs
+
+same-length : tie.Need-same-length
+same-length c = search needs
+
+returns-3 : tie.Need-returns-3
+unfolding priceLine bookWith
+returns-3 c = simp (le-ltb _ _ (c .before .if1 .left), le-ltb _ _ (c .if2 .left)) (refl, refl)
+
+pub set-price-spec : {M : Type 1} → statement M
+set-price-spec =
+    tie.close (tie.spec returns returns-2 mul-book slice-write-book same-length returns-3)

@@ -1,0 +1,93 @@
+-- Document 01, "The program and one run": what the program holds, and for each command the line that it prints and what it then holds. Assumes nothing.
+use mathlib.Core.Bool.{Bool, cond, _||_}
+use mathlib.Core.List.{List}
+use Prim.Native.Nat.{ℕ}
+use lib.Dec.{ltb}
+use lib.ListN.{replicate, set}
+use Rattle.calendar.specs.Answers.{dayAnswer, dateAnswer}
+use Rattle.text.specs.declared.reading.Command.{Command}
+use Rattle.text.specs.declared.writing.Line.{Line}
+use Rattle.model.specs.Calls.{Call, BillRequest, callOpen, callBill, callRebill, callCert, callCancel, callClaim, callReport, callTotal}
+use Rattle.layout.specs.Theorems.{packedMachine}
+use Rattle.contract_calls.specs.Start.{startAnswer, startBytes}
+use Rattle.session.specs.AnswerLines.{lineOf, calendarLine}
+
+-- what the program holds: the ledger's bytes and the price book
+pub record State : Type 0 where
+  pub ledger : List ℕ
+  pub book : List ℕ
+
+abbrev pub holding : (ledger book : List ℕ) → State
+holding ledger book = record { ledger = ledger; book = book }
+
+-- the number of the book's entries
+abbrev pub bookLength : ℕ
+bookLength = 1740
+
+-- at first: a fresh Great Britain ledger and a book of zeros
+unfoldable pub initial : State
+initial = holding (packedMachine .start 0) (replicate bookLength 0)
+
+-- the line that is printed for a command, and what is held after it
+pub record Outcome : Type 0 where
+  pub line : Line
+  pub next : State
+
+-- a line, and nothing is changed
+abbrev pub saying : State → Line → Outcome
+saying s line = record { line = line; next = s }
+
+-- a call of a history on the ledger: document 01's machine on the bytes
+abbrev pub onLedger : State → Call → Outcome
+onLedger s c = record {
+  line = lineOf (packedMachine .answer (s .ledger) c);
+  next = holding (packedMachine .step (s .ledger) c) (s .book);
+}
+
+-- the numbers of a bill or rebill with the book as it is
+abbrev pub request : (contract first last kwh supply wap : ℕ) → (book : List ℕ) → BillRequest
+request contract first last kwh supply wap book = record { contract = contract; first = first; last = last; kwh = kwh; supply = supply; wap = wap; book = book }
+
+-- start keeps the book
+abbrev pub starting : State → (territory : ℕ) → Outcome
+starting s territory = record {
+  line = lineOf (startAnswer (s .ledger) territory);
+  next = holding (startBytes (s .ledger) territory) (s .book);
+}
+
+-- number 8: a book entry's index is above 1,739 or its value above 999,999
+abbrev pub badPrice : (index value : ℕ) → Bool
+badPrice index value = ltb 1739 index || ltb 999999 value
+
+-- price sets a book entry and answers no numbers
+unfoldable pub priceLine : (index value : ℕ) → Line
+priceLine index value = cond (badPrice index value) (Line.Refused 8) Line.Ok
+
+unfoldable pub bookWith : (index value : ℕ) → List ℕ → List ℕ
+bookWith index value book = cond (badPrice index value) book (set book index value)
+
+abbrev pub pricing : State → (index value : ℕ) → Outcome
+pricing s index value = record { line = priceLine index value; next = holding (s .ledger) (bookWith index value (s .book)) }
+
+-- what each command prints and leaves
+unfoldable pub outcome : State → Command → Outcome
+outcome s (Command.Start territory) = starting s territory
+outcome s (Command.Open contract fuel kind fix entry) = onLedger s (callOpen contract fuel kind fix entry)
+outcome s (Command.Bill contract first last kwh supply wap) = onLedger s (callBill (request contract first last kwh supply wap (s .book)))
+outcome s (Command.Rebill contract first last kwh supply wap) = onLedger s (callRebill (request contract first last kwh supply wap (s .book)))
+outcome s (Command.Cert contract class effective) = onLedger s (callCert contract class effective)
+outcome s (Command.Cancel contract first) = onLedger s (callCancel contract first)
+outcome s Command.Claim = onLedger s callClaim
+outcome s (Command.Report contract) = onLedger s (callReport contract)
+outcome s Command.Total = onLedger s callTotal
+outcome s (Command.Day year month day) = saying s (calendarLine (dayAnswer year month day))
+outcome s (Command.Date day) = saying s (calendarLine (dateAnswer day))
+outcome s (Command.Price index value) = pricing s index value
+outcome s Command.Unreadable = saying s (Line.Refused 1)
+
+-- the line that is printed, and what is held next
+abbrev pub reply : State → Command → Line
+reply s c = outcome s c .line
+
+abbrev pub next : State → Command → State
+next s c = outcome s c .next

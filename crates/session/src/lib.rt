@@ -1,0 +1,80 @@
+// A session of the program: the whole input to the whole output.
+mod answers;
+mod replies;
+
+use replies::UNREADABLE;
+use replies::reply;
+use text::pieces::find;
+use text::reading::read_command;
+use text::writing::Line;
+use text::writing::write_line;
+ghost use mathlib.Core.Path.{_≡_};
+ghost use Prim.Native.Nat.{_+_, _*_, _≤_};
+ghost use lib.ListN.{length};
+ghost use Rattle.text.specs.Commands.{commandOf};
+ghost use Rattle.text.specs.Lines.{lineText, WroteWithin};
+ghost use Rattle.session.specs.Replies.{holding, bookLength, reply, next};
+ghost use Rattle.session.specs.Transcript.{commandsOf, exchanges, printed, transcript, outputPerByte, mostOutput};
+
+// The most bytes that the program reads.
+pub const MOST_INPUT: usize = 65536;
+
+// No output is longer: 11 bytes for each byte read.
+pub const MOST_OUTPUT: usize = 11 * MOST_INPUT;
+
+// The length of the ledger in bytes.
+const LEDGER_LENGTH: usize = 18760;
+
+// The number of the book's entries.
+const BOOK_LENGTH: usize = 1740;
+
+// The territory of the ledger at first: Great Britain.
+const GREAT_BRITAIN: u32 = 0;
+
+// One line, without its line feed: the line printed for it is written from `at` on.
+fn reply_to_line(
+    line: &[u8],
+    ledger: &mut [u8],
+    book: &mut [u32],
+    out: &mut [u8],
+    at: usize,
+) -> usize
+    requires { ⌜ (length (now book) ≡ bookLength) × (at + outputPerByte * (length (now line) + 1) ≤ length (now out)) ⌝ }
+    ensures { λ r. ⌜ WroteWithin (outputPerByte * (length (now (line .entry)) + 1)) (now (out .entry)) (now (out .exit)) at r (lineText (reply (holding (now (ledger .entry)) (now (book .entry))) (commandOf (now (line .entry))))) ⌝ }
+    ensures { λ r. ⌜ holding (now (ledger .exit)) (now (book .exit)) ≡ next (holding (now (ledger .entry)) (now (book .entry))) (commandOf (now (line .entry))) ⌝ }
+{
+    let said = reply(read_command(line), ledger, book);
+    write_line(out, at, said)
+}
+
+// All lines of a text.
+fn reply_to_lines(input: &[u8], ledger: &mut [u8], book: &mut [u32], out: &mut [u8]) -> usize
+    requires { ⌜ (length (now book) ≡ bookLength) × (outputPerByte * length (now input) ≤ length (now out)) ⌝ }
+    ensures { λ r. ⌜ WroteWithin (outputPerByte * length (now (input .entry))) (now (out .entry)) (now (out .exit)) 0 r (printed (exchanges (holding (now (ledger .entry)) (now (book .entry))) (commandsOf (now (input .entry))))) ⌝ }
+{
+    let mut at: usize = 0;
+    let mut written: usize = 0;
+    while at < input.len() {
+        let end = find(input, at, b'\n');
+        if end == input.len() {
+            return write_line(out, written, Line::Refused(UNREADABLE));
+        }
+        written = reply_to_line(&input[at..end], ledger, book, out, written);
+        at = end + 1;
+    }
+    written
+}
+
+// The whole input: what is printed of it is written to the start of `out`, and the number of its bytes is answered.
+pub fn session(input: &[u8], out: &mut [u8]) -> usize
+    requires { ⌜ mostOutput ≤ length (now out) ⌝ }
+    ensures { λ r. ⌜ WroteWithin mostOutput (now (out .entry)) (now (out .exit)) 0 r (transcript (now (input .entry))) ⌝ }
+{
+    if MOST_INPUT < input.len() {
+        return write_line(out, 0, Line::Refused(UNREADABLE));
+    }
+    let mut ledger = [0u8; LEDGER_LENGTH];
+    let mut book = [0u32; BOOK_LENGTH];
+    edits::fresh(&mut ledger, GREAT_BRITAIN);
+    reply_to_lines(input, &mut ledger, &mut book, out)
+}
