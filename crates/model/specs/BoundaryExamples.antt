@@ -154,6 +154,20 @@ atNumber12 = (callBill (request 0 486 499 1 1 1) on holding 1024 gives 12) ∷ (
 unfoldable pub atNumber13 : List Boundary
 atNumber13 = (callClaim on claiming 1000 gives 13) ∷ (callClaim on claiming 999 gives 0) ∷ []
 
+-- calls that two tests or more turn down: the number is the first in checking order
+unfoldable pub inCheckingOrder : List Boundary
+inCheckingOrder =
+    (callBill (withBook (replicate 1739 0) (request 64 486 499 1 1 1)) on britain gives 3)
+    ∷ (callOpen 64 2 0 0 0 on britain gives 4)
+    ∷ (callOpen 1 2 0 0 0 on britain gives 5)
+    ∷ (callOpen 2 2 0 852 0 on britain gives 6)
+    ∷ (callBill (request 0 485 499 100000001 1 1) on britain gives 7)
+    ∷ (callRebill (request 0 501 501 100000001 1 1) on britain gives 8)
+    ∷ (callRebill (request 0 501 501 1 1 1) on britain gives 9)
+    ∷ (callBill (request 1 486 486 1 1 0) on holding 1 gives 10)
+    ∷ (callBill (request 1 487 487 1 1 0) on holding 1024 gives 11)
+    ∷ []
+
 -- the number that turns the call down is the one given
 unfoldable pub asGiven : Boundary → Bool
 asGiven e = eqb (refusal document01 (view (e .sheet)) (e .call)) (e .number)
@@ -161,4 +175,4 @@ asGiven e = eqb (refusal document01 (view (e .sheet)) (e .call)) (e .number)
 abbrev pub AtTheBoundaries : Type 0
 AtTheBoundaries = All
     (λ table. every (map asGiven table) ≡ true)
-    (atNumber3 ∷ atNumber4 ∷ atNumber5 ∷ atNumber6 ∷ atNumber7 ∷ atNumber8 ∷ atNumber9 ∷ atNumber10 ∷ atNumber11 ∷ atNumber12 ∷ atNumber13 ∷ [])
+    (atNumber3 ∷ atNumber4 ∷ atNumber5 ∷ atNumber6 ∷ atNumber7 ∷ atNumber8 ∷ atNumber9 ∷ atNumber10 ∷ atNumber11 ∷ atNumber12 ∷ atNumber13 ∷ inCheckingOrder ∷ [])
