@@ -1,4 +1,5 @@
--- How much room a reply takes: 11 bytes for each byte of its line, the line feed included, are enough. Assumes nothing.
+-- How much room a reply takes: 11 bytes for each byte of its line, the line feed included, are enough. No line takes more than 66 bytes, and
+-- a line that can be read has 6 with its line feed; one that can't be read is refused in 10. Assumes nothing.
 use mathlib.Core.Path.{_≡_, refl}
 use mathlib.Core.Bool.{Bool, true, false, not, cond}
 use mathlib.Core.List.{List, [], _∷_, map}
@@ -137,7 +138,7 @@ price-room index value = go (badPrice index value)
     go true = refused-66 8 (omega arith)
     go false = omega arith
 
--- ---- the shortest line of a command that can be read is 5 bytes, and one that can't be read is refused in 10
+-- ---- the reply to each command
 reply-room : (s : State) (c : Command) → lineRoom (reply s c) ≤ outputPerByte * (shortestLine c + 1)
 unfolding outcome
 reply-room s (Command.Start territory) = omega (arith, answer-room (startAnswer (s .ledger) territory) (start-low (s .ledger) territory))

@@ -9,8 +9,6 @@ use Rattle.text.specs.Pieces.{pieces, sameText}
 use Rattle.text.specs.Numbers.{digitsBy, digits, decimalValue, numberOf, numbersOf}
 use Rattle.text.specs.Commands.{formNamed, commandOf}
 use Rattle.text.specs.Lines.{lineText}
-use Rattle.model.specs.declared.Answer.{Answer}
-use Rattle.model.specs.Calls.{Call}
 use Rattle.model.specs.Document01.{document01}
 use Rattle.model.specs.History.{answersTo, ledgerMachine}
 use Rattle.model.specs.Run.{request, runCalls, runAnswers}

@@ -56,7 +56,7 @@ logCommand l (Command.Price index value) line =
     cond (isOk line) (record { book = set (l .book) index value; territory = l .territory; history = l .history; lines = l .lines }) l
 logCommand l Command.Unreadable line = l
 
--- the log of a session's commands, and what the program holds after them
+-- the log of a session's commands, read off the exchanges that its transcript prints, and what the program holds after them
 unfoldable pub logOf : List Command → Log
 logOf commands = run (λ l e. logCommand l (e .command) (e .line)) emptyLog (exchanges initial commands)
 
