@@ -1,5 +1,5 @@
 -- The refusals of bill, rebill and cancel in checking order: the first that fits, from what each test finds. Assumes nothing.
-use mathlib.Core.Path.{_≡_, refl, sym, _∙_}
+use mathlib.Core.Path.{_≡_, refl, sym, ap, _∙_}
 use mathlib.Core.Bool.{Bool, true, false, not, cond, _&&_}
 use mathlib.Core.List.{List, [], _∷_, _++_}
 use Prim.Native.Nat.{ℕ, _≤_, _<_}
@@ -7,7 +7,7 @@ use native.Mathlib.Omega.{arith}
 use lib.Dec.{T, leb, ltb, eqb}
 use lib.ListN.{length}
 use Rattle.basics.specs.Lists.{count}
-use Rattle.basics.proofs.Tests.{yes-lt, yes-le, no-le, no-eq, not-no, lt-no, yes-T, and-right, T-yes}
+use Rattle.basics.proofs.Tests.{yes-lt, yes-le, yes-eq, no-le, no-eq, not-no, lt-no, yes-T, and-right, T-yes}
 use Rattle.basics.proofs.Lists.{count-true}
 use borrow.Author.Tests.{le-ltb}
 use Rattle.rates.specs.declared.Bill.{Bill}
@@ -148,6 +148,14 @@ first-append (x ∷ xs) ys n = go (x .fits) (x .number) (lib.Dec.leb→le 1 (x .
         → cond f m (firstOf (xs ++ ys)) ≡ cond (eqb (cond f m (firstOf xs)) 0) (firstOf ys) (cond f m (firstOf xs))
     go true m h e = rw (no-eq m 0 (λ z. omega arith))
     go false m h e = e
+
+-- ---- the shared refusals come first: the first number that fits is theirs, or that of the others where they turn nothing down
+
+pub others-after : (first others : ℕ) {number : ℕ} → number ≡ cond (eqb first 0) others first → first ≡ 0 → others ≡ number
+others-after first others e none = sym (e ∙ ap (λ (p : Bool). cond p others first) (yes-eq first 0 none))
+
+pub shared-first : (first others : ℕ) {number : ℕ} → number ≡ cond (eqb first 0) others first → (first ≡ 0 → ⊥) → first ≡ number
+shared-first first others e some = sym (e ∙ ap (λ (p : Bool). cond p others first) (no-eq first 0 some))
 
 module _ (v : View) (q : BillRequest) where
   pub bill-refusal : refusal document01 v (callBill q) ≡ cond (eqb (firstOf (sharedTests v q)) 0) (firstOf (billTests v q)) (firstOf (sharedTests v q))

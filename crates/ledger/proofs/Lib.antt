@@ -1,4 +1,4 @@
--- The slots of the packed ledger off its bytes, and the check of its rows in one pass.
+-- The slots of the packed ledger off its bytes, the check of its rows in one pass, and what a call then answers and leaves.
 pub mod Access
 pub mod Checked
 pub mod Machine
@@ -6,3 +6,4 @@ pub mod RowChecks
 pub mod RowsChecked
 pub mod Scan
 pub mod HeldRows
+pub mod OtherLengths

@@ -1,3 +1,4 @@
--- What the check and the search of a packed ledger find.
+-- What the check and the search of a packed ledger find, and bytes of other lengths.
 pub mod Check
 pub mod Rows
+pub mod OtherLengths

@@ -1,10 +1,8 @@
 -- `refused_bill` gives the first refusal of a bill that fits: of those before, and then of the others.
-use mathlib.Core.Path.{sym, ap, _∙_}
-use mathlib.Core.Bool.{Bool, cond}
-use Rattle.basics.proofs.Tests.{yes-eq, no-eq}
+use mathlib.Core.Path.{sym, _∙_}
 use Rattle.model.specs.Calls.{firstOf}
 use Rattle.bill_refusals.specs.Requests.{billRequest, sharedTests, billTests, viewOf}
-use Rattle.bill_refusals.proofs.Tests.{shared-passed, bill-refusal}
+use Rattle.bill_refusals.proofs.Tests.{shared-passed, others-after, shared-first, bill-refusal}
 use borrow.Author.Needs.{needs}
 use Rattle.bill_refusals.proofs.refusals.refused_bill.Statement.{statement}
 use Rattle.bill_refusals.proofs.refusals.refused_bill.Tie as tie
@@ -23,16 +21,14 @@ returns c =
     let start = c .before .before .before .before .before in
     let v = viewOf (start .args .b .now) in
     let q = billRequest (start .args .request) (start .args .book .now) in
-    let none = sym (c .before .before .refused-request .ensures) ∙ c .before .if1 .taken in
-    c .refused-new-row .ensures ∙ sym (bill-refusal v q ∙ ap (λ (p : Bool). cond p (firstOf (billTests v q)) (firstOf (sharedTests v q))) (yes-eq (firstOf (sharedTests v q)) 0 none))
+    c .refused-new-row .ensures ∙ others-after (firstOf (sharedTests v q)) (firstOf (billTests v q)) (bill-refusal v q) (sym (c .before .before .refused-request .ensures) ∙ c .before .if1 .taken)
 
 returns-2 : tie.Need-returns-2
 returns-2 c =
     let start = c .before .before .before .before in
     let v = viewOf (start .args .b .now) in
     let q = billRequest (start .args .request) (start .args .book .now) in
-    c .before .refused-request .ensures
-    ∙ sym (bill-refusal v q ∙ ap (λ (p : Bool). cond p (firstOf (billTests v q)) (firstOf (sharedTests v q))) (no-eq (firstOf (sharedTests v q)) 0 (λ z. c .if1 .left (c .before .refused-request .ensures ∙ z))))
+    c .before .refused-request .ensures ∙ shared-first (firstOf (sharedTests v q)) (firstOf (billTests v q)) (bill-refusal v q) (λ z. c .if1 .left (c .before .refused-request .ensures ∙ z))
 
 pub refused-bill-spec : {M : Type 1} → statement M
 refused-bill-spec =

@@ -1,10 +1,8 @@
 -- `refused_rebill` gives the first refusal of a rebill that fits: of those before, and then of the others.
-use mathlib.Core.Path.{sym, ap, _∙_}
-use mathlib.Core.Bool.{Bool, cond}
-use Rattle.basics.proofs.Tests.{yes-eq, no-eq}
+use mathlib.Core.Path.{sym, _∙_}
 use Rattle.model.specs.Calls.{firstOf}
 use Rattle.bill_refusals.specs.Requests.{billRequest, sharedTests, rebillTests, viewOf}
-use Rattle.bill_refusals.proofs.Tests.{shared-passed, rebill-refusal}
+use Rattle.bill_refusals.proofs.Tests.{shared-passed, others-after, shared-first, rebill-refusal}
 use borrow.Author.Needs.{needs}
 use Rattle.bill_refusals.proofs.refusals.refused_rebill.Statement.{statement}
 use Rattle.bill_refusals.proofs.refusals.refused_rebill.Tie as tie
@@ -23,16 +21,14 @@ returns c =
     let start = c .before .before .before .before .before in
     let v = viewOf (start .args .b .now) in
     let q = billRequest (start .args .request) (start .args .book .now) in
-    let none = sym (c .before .before .refused-request .ensures) ∙ c .before .if1 .taken in
-    c .refused-row-again .ensures ∙ sym (rebill-refusal v q ∙ ap (λ (p : Bool). cond p (firstOf (rebillTests v q)) (firstOf (sharedTests v q))) (yes-eq (firstOf (sharedTests v q)) 0 none))
+    c .refused-row-again .ensures ∙ others-after (firstOf (sharedTests v q)) (firstOf (rebillTests v q)) (rebill-refusal v q) (sym (c .before .before .refused-request .ensures) ∙ c .before .if1 .taken)
 
 returns-2 : tie.Need-returns-2
 returns-2 c =
     let start = c .before .before .before .before in
     let v = viewOf (start .args .b .now) in
     let q = billRequest (start .args .request) (start .args .book .now) in
-    c .before .refused-request .ensures
-    ∙ sym (rebill-refusal v q ∙ ap (λ (p : Bool). cond p (firstOf (rebillTests v q)) (firstOf (sharedTests v q))) (no-eq (firstOf (sharedTests v q)) 0 (λ z. c .if1 .left (c .before .refused-request .ensures ∙ z))))
+    c .before .refused-request .ensures ∙ shared-first (firstOf (sharedTests v q)) (firstOf (rebillTests v q)) (rebill-refusal v q) (λ z. c .if1 .left (c .before .refused-request .ensures ∙ z))
 
 pub refused-rebill-spec : {M : Type 1} → statement M
 refused-rebill-spec =
