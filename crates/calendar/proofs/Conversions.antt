@@ -2,16 +2,16 @@
 use Prim.Native.Nat.{ℕ, _<_}
 use mathlib.Core.Path.{_≡_, refl, ap, sym, _∙_}
 use mathlib.Core.Bool.{Bool, true, false, cond}
-use mathlib.Core.List.{[], _∷_}
 use mathlib.Core.Logic.{_↔_}
 use native.Mathlib.Omega.{arith}
 use lib.Dec.{ltb}
-use lib.ListN.{getD}
 use borrow.Author.Tests.{lt-ltb, ltb-true}
 use Rattle.calendar.specs.declared.CalendarDate.{CalendarDate}
+use Rattle.calendar.specs.declared.DayAnswer.{DayAnswer}
+use Rattle.calendar.specs.declared.DateAnswer.{DateAnswer}
 use Rattle.calendar.specs.Calendar.{dateFrom}
 use Rattle.calendar.specs.Days.{dates, dateOf, dayCount, packed}
-use Rattle.calendar.specs.Answers.{Answer, accepted, refused, wrongDay, position, answerOfNumber, dayAnswer, dateAnswer}
+use Rattle.calendar.specs.Answers.{wrongDay, position, answerOfNumber, dayAnswer, dateAnswer, dayRefusalNumber}
 use Rattle.calendar.proofs.Positions.{FirstPlace, position-first, first-unique}
 use Rattle.calendar.proofs.Days.{day-count, increasing}
 
@@ -29,14 +29,14 @@ module _ (year month day : ℕ) where
   pub first-answered :
       (number : ℕ) → number < dayCount
       → AbsentBelow number (dateFrom year month day) → dateOf number ≡ dateFrom year month day
-      → dayAnswer year month day ≡ accepted (number ∷ [])
+      → dayAnswer year month day ≡ DayAnswer.Day number
   unfolding dateOf
   first-answered number inside absent there =
       answer-at number (record { within = omega (arith, day-count); before = absent; there = λ _. there })
       ∙ rw (lt-ltb number dayCount inside)
 
   -- `day` turns down a date that no day has
-  pub absent-refused : AbsentBelow dayCount (dateFrom year month day) → dayAnswer year month day ≡ refused wrongDay 1
+  pub absent-refused : AbsentBelow dayCount (dateFrom year month day) → dayAnswer year month day ≡ DayAnswer.Refused wrongDay
   unfolding dateOf
   absent-refused absent =
       answer-at dayCount
@@ -45,25 +45,31 @@ module _ (year month day : ℕ) where
 -- `day` of the date of a day is that day
 pub day-of-date :
     (number : ℕ) → number < dayCount
-    → dayAnswer (dateOf number .year) (dateOf number .month) (dateOf number .day) ≡ accepted (number ∷ [])
+    → dayAnswer (dateOf number .year) (dateOf number .month) (dateOf number .day) ≡ DayAnswer.Day number
 day-of-date number inside =
     first-answered (dateOf number .year) (dateOf number .month) (dateOf number .day) number inside
     (λ i earlier equal. omega (arith, increasing i number earlier inside, ap packed equal))
     refl
 
+-- the day number answered, 0 where the call is turned down
+dayNumber : DayAnswer → ℕ
+dayNumber (DayAnswer.Day day) = day
+dayNumber (DayAnswer.Refused n) = 0
+
 -- only a place inside the table is accepted
 accepted-place :
     (place number : ℕ) (inside : Bool)
-    → cond inside (accepted (place ∷ [])) (refused wrongDay 1) ≡ accepted (number ∷ [])
+    → cond inside (DayAnswer.Day place) (DayAnswer.Refused wrongDay) ≡ DayAnswer.Day number
     → (inside ≡ true) × (place ≡ number)
-accepted-place place number true same = (refl, ap (λ (answer : Answer). getD (answer .values) 0 0) same)
-accepted-place place number false same = absurd (omega (arith, ap (λ (answer : Answer). answer .number) same))
+unfolding dayNumber
+accepted-place place number true same = (refl, ap dayNumber same)
+accepted-place place number false same = absurd (omega (arith, ap dayRefusalNumber same))
 
 -- `date` of the day that `day` answers is the date given
 pub date-of-day :
     (year month day number : ℕ)
-    → dayAnswer year month day ≡ accepted (number ∷ [])
-    → dateAnswer number ≡ accepted (year ∷ month ∷ day ∷ [])
+    → dayAnswer year month day ≡ DayAnswer.Day number
+    → dateAnswer number ≡ DateAnswer.Date (dateFrom year month day)
 unfolding dayAnswer dateAnswer dateOf
 date-of-day year month day number same =
     let date = dateFrom year month day in
@@ -76,10 +82,10 @@ date-of-day year month day number same =
 -- `day` turns a date down exactly where no day has it
 pub refused-exactly :
     (year month day : ℕ)
-    → (dayAnswer year month day ≡ refused wrongDay 1) ↔ AbsentBelow dayCount (dateFrom year month day)
+    → (dayAnswer year month day ≡ DayAnswer.Refused wrongDay) ↔ AbsentBelow dayCount (dateFrom year month day)
 refused-exactly year month day = (present, absent-refused year month day)
   where
-    present : dayAnswer year month day ≡ refused wrongDay 1 → AbsentBelow dayCount (dateFrom year month day)
+    present : dayAnswer year month day ≡ DayAnswer.Refused wrongDay → AbsentBelow dayCount (dateFrom year month day)
     present turned number inside equal =
         let answered = rw equal at (day-of-date number inside) in
-        omega (arith, ap (λ (answer : Answer). answer .number) (sym turned ∙ answered))
+        omega (arith, ap dayRefusalNumber (sym turned ∙ answered))

@@ -5,7 +5,7 @@ ghost use mathlib.Core.Path.{_≡_};
 ghost use Prim.Native.Nat.{_<_};
 ghost use Rattle.calendar.specs.Calendar.{sameDate};
 ghost use Rattle.calendar.specs.Days.{dayCount, dateOf, schemeMonth};
-ghost use Rattle.calendar.specs.Answers.{answerOfDay, answerOfDate, dayAnswer, dateAnswer};
+ghost use Rattle.calendar.specs.Answers.{dayAnswer, dateAnswer};
 
 // The day numbers are those below 852.
 const DAY_COUNT: u32 = 852;
@@ -63,7 +63,7 @@ fn same_date(a: CalendarDate, b: CalendarDate) -> bool
 
 // The day number of a date, found in the table.
 pub fn day(year: u32, month: u32, day: u32) -> DayAnswer
-    ensures { λ r. ⌜ answerOfDay r ≡ dayAnswer year month day ⌝ }
+    ensures { λ r. ⌜ r ≡ dayAnswer year month day ⌝ }
 {
     let wanted = CalendarDate { year, month, day };
     let mut number: u32 = 0;
@@ -78,7 +78,7 @@ pub fn day(year: u32, month: u32, day: u32) -> DayAnswer
 
 // The date of a day number.
 pub fn date(day: u32) -> DateAnswer
-    ensures { λ r. ⌜ answerOfDate r ≡ dateAnswer day ⌝ }
+    ensures { λ r. ⌜ r ≡ dateAnswer day ⌝ }
 {
     if day < DAY_COUNT {
         DateAnswer::Date(date_of(day))

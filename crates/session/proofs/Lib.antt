@@ -1,5 +1,4 @@
 -- Laws of the lines, of the calls that change no byte, of the room that a reply takes, and of the loop over the lines.
-pub mod AnswerLines
 pub mod CommandGroups
 pub mod LedgerReplies
 pub mod UnchangedLedger

@@ -9,9 +9,12 @@ use lib.Dec.{leb, ltb, eqb}
 use lib.ListN.{length}
 use Rattle.basics.specs.Tests.{every}
 use Rattle.basics.proofs.Tests.{and-left, and-right, le-yes}
+use Rattle.calendar.specs.declared.CalendarDate.{CalendarDate}
+use Rattle.calendar.specs.declared.DayAnswer.{DayAnswer}
+use Rattle.calendar.specs.declared.DateAnswer.{DateAnswer}
 use Rattle.calendar.specs.Calendar.{dateFrom}
 use Rattle.calendar.specs.Days.{dates, dayCount, dateOf}
-use Rattle.calendar.specs.Answers.{accepted, refused, dateValues, position, dayAnswer, dateAnswer}
+use Rattle.calendar.specs.Answers.{position, dayAnswer, dateAnswer}
 use Rattle.text.specs.declared.reading.Command.{Command}
 use Rattle.text.specs.declared.writing.Line.{Line}
 use Rattle.text.specs.Commands.{commandOf}
@@ -29,7 +32,7 @@ use Rattle.layout.specs.PackedLedger.{packedLayout}
 use Rattle.layout.specs.Theorems.{packedMachine}
 use Rattle.edits.specs.Offsets.{ledgerLength}
 use Rattle.contract_calls.specs.Start.{startRefusal, doneUnlessRefused, startAnswer}
-use Rattle.session.specs.AnswerLines.{lineOf, okLine, calendarLine}
+use Rattle.session.specs.AnswerLines.{lineOf, dayLine, dateLine}
 use Rattle.session.specs.Replies.{State, request, badPrice, priceLine, outcome, reply}
 use Rattle.session.specs.Transcript.{outputPerByte}
 
@@ -110,25 +113,22 @@ answer-room (Totalled due unclaimed) h = omega arith
 ledger-room : (b : List ℕ) (c : Call) → lineRoom (lineOf (packedMachine .answer b c)) ≤ 66
 ledger-room b c = answer-room (packedMachine .answer b c) (machine-low b c)
 
-ok-room : (values : List ℕ) → lineRoom (okLine values) ≤ 66
-ok-room [] = omega arith
-ok-room (a ∷ []) = omega arith
-ok-room (a ∷ b ∷ []) = omega arith
-ok-room (a ∷ b ∷ c ∷ rest) = omega arith
-
-calendar-room : (t : Bool) (values : List ℕ) (count : ℕ) → lineRoom (calendarLine (cond t (accepted values) (refused 7 count))) ≤ 66
-calendar-room true values count = ok-room values
-calendar-room false values count = refused-66 7 (omega arith)
-
-day-room : (year month day : ℕ) → lineRoom (calendarLine (dayAnswer year month day)) ≤ 66
+day-room : (year month day : ℕ) → lineRoom (dayLine (dayAnswer year month day)) ≤ 66
 unfolding dayAnswer
 day-room year month day =
-    let number = position (dateFrom year month day) dates in
-    calendar-room (ltb number dayCount) (number ∷ []) 1
+    let number = position (dateFrom year month day) dates in go (ltb number dayCount) number
+  where
+    go : (t : Bool) (n : ℕ) → lineRoom (dayLine (cond t (DayAnswer.Day n) (DayAnswer.Refused 7))) ≤ 66
+    go true n = omega arith
+    go false n = refused-66 7 (omega arith)
 
-date-room : (day : ℕ) → lineRoom (calendarLine (dateAnswer day)) ≤ 66
+date-room : (day : ℕ) → lineRoom (dateLine (dateAnswer day)) ≤ 66
 unfolding dateAnswer
-date-room day = calendar-room (ltb day dayCount) (dateValues (dateOf day)) 3
+date-room day = go (ltb day dayCount) (dateOf day)
+  where
+    go : (t : Bool) (d : CalendarDate) → lineRoom (dateLine (cond t (DateAnswer.Date d) (DateAnswer.Refused 7))) ≤ 66
+    go true d = omega arith
+    go false d = refused-66 7 (omega arith)
 
 price-room : (index value : ℕ) → lineRoom (priceLine index value) ≤ 66
 unfolding priceLine

@@ -1,7 +1,6 @@
 -- Document 01, "The program and one run": the line that is printed for an answer. Assumes nothing.
-use mathlib.Core.List.{List, [], _∷_}
-use Prim.Native.Nat.{ℕ, zero, suc}
-use Rattle.calendar.specs.Answers
+use Rattle.calendar.specs.declared.DayAnswer.{DayAnswer}
+use Rattle.calendar.specs.declared.DateAnswer.{DateAnswer}
 use Rattle.text.specs.declared.writing.Line.{Line}
 use Rattle.text.specs.declared.writing.Number.the-variants.{Natural, Integer}
 use Rattle.model.specs.declared.Answer.{Answer}
@@ -19,18 +18,11 @@ lineOf (Claimed pence rest) = Line.Ok2 (Integer pence) (Natural rest)
 lineOf (Reported rows kwh due) = Line.Ok3 (Natural rows) (Natural kwh) (Natural due)
 lineOf (Totalled due unclaimed) = Line.Ok2 (Natural due) (Integer unclaimed)
 
--- `ok` with numbers, of which there are at most three
-abbrev pub okLine : List ℕ → Line
-okLine [] = Line.Ok
-okLine (a ∷ []) = Line.Ok1 (Natural a)
-okLine (a ∷ b ∷ []) = Line.Ok2 (Natural a) (Natural b)
-okLine (a ∷ b ∷ c ∷ rest) = Line.Ok3 (Natural a) (Natural b) (Natural c)
+-- the lines of day and date, likewise
+abbrev pub dayLine : DayAnswer → Line
+dayLine (DayAnswer.Day day) = Line.Ok1 (Natural day)
+dayLine (DayAnswer.Refused n) = Line.Refused n
 
--- `refused` and the number, unless it is 0, which turns nothing down
-abbrev pub lineUnless : ℕ → Line → Line
-lineUnless zero accepted = accepted
-lineUnless (suc n) accepted = Line.Refused (suc n)
-
--- the line of day and date
-abbrev pub calendarLine : Answers.Answer → Line
-calendarLine a = lineUnless (a .number) (okLine (a .values))
+abbrev pub dateLine : DateAnswer → Line
+dateLine (DateAnswer.Date date) = Line.Ok3 (Natural (date .year)) (Natural (date .month)) (Natural (date .day))
+dateLine (DateAnswer.Refused n) = Line.Refused n

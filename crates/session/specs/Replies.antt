@@ -10,7 +10,7 @@ use Rattle.text.specs.declared.writing.Line.{Line}
 use Rattle.model.specs.Calls.{Call, BillRequest, callOpen, callBill, callRebill, callCert, callCancel, callClaim, callReport, callTotal}
 use Rattle.layout.specs.Theorems.{packedMachine}
 use Rattle.contract_calls.specs.Start.{startAnswer, startBytes}
-use Rattle.session.specs.AnswerLines.{lineOf, calendarLine}
+use Rattle.session.specs.AnswerLines.{lineOf, dayLine, dateLine}
 
 -- what the program holds: the ledger's bytes and the price book
 pub record State : Type 0 where
@@ -80,8 +80,8 @@ outcome s (Command.Cancel contract first) = onLedger s (callCancel contract firs
 outcome s Command.Claim = onLedger s callClaim
 outcome s (Command.Report contract) = onLedger s (callReport contract)
 outcome s Command.Total = onLedger s callTotal
-outcome s (Command.Day year month day) = saying s (calendarLine (dayAnswer year month day))
-outcome s (Command.Date day) = saying s (calendarLine (dateAnswer day))
+outcome s (Command.Day year month day) = saying s (dayLine (dayAnswer year month day))
+outcome s (Command.Date day) = saying s (dateLine (dateAnswer day))
 outcome s (Command.Price index value) = pricing s index value
 outcome s Command.Unreadable = saying s (Line.Refused 1)
 

@@ -5,8 +5,7 @@ use model::Answer;
 use text::writing::Line;
 use text::writing::Number;
 ghost use mathlib.Core.Path.{_≡_};
-ghost use Rattle.calendar.specs.Answers.{dayAnswer, dateAnswer};
-ghost use Rattle.session.specs.AnswerLines.{lineOf, lineUnless, calendarLine};
+ghost use Rattle.session.specs.AnswerLines.{lineOf, dayLine, dateLine};
 
 // The line of a call on the ledger.
 pub fn line_of(answer: Answer) -> Line
@@ -55,39 +54,26 @@ pub fn line_of(answer: Answer) -> Line
     }
 }
 
-// The line that refuses by a number, unless it is 0, which turns nothing down.
-fn line_unless(refused: u32, accepted: Line) -> Line
-    ensures { λ r. ⌜ r ≡ lineUnless refused accepted ⌝ }
-{
-    if refused == 0 {
-        return accepted;
-    }
-    Line::Refused(refused)
-}
-
 // The line of `day`.
-pub fn day_line(year: u32, month: u32, day: u32) -> Line
-    ensures { λ r. ⌜ r ≡ calendarLine (dayAnswer year month day) ⌝ }
+pub fn day_line(answer: DayAnswer) -> Line
+    ensures { λ r. ⌜ r ≡ dayLine answer ⌝ }
 {
-    match calendar::day(year, month, day) {
+    match answer {
         DayAnswer::Day(number) => Line::Ok1(Number::Natural(number as u64)),
-        DayAnswer::Refused(number) => line_unless(number, Line::Ok1(Number::Natural(0))),
+        DayAnswer::Refused(number) => Line::Refused(number),
     }
 }
 
 // The line of `date`.
-pub fn date_line(day: u32) -> Line
-    ensures { λ r. ⌜ r ≡ calendarLine (dateAnswer day) ⌝ }
+pub fn date_line(answer: DateAnswer) -> Line
+    ensures { λ r. ⌜ r ≡ dateLine answer ⌝ }
 {
-    let zero = Number::Natural(0);
-    match calendar::date(day) {
-        DateAnswer::Date(date) => {
-            Line::Ok3(
-                Number::Natural(date.year as u64),
-                Number::Natural(date.month as u64),
-                Number::Natural(date.day as u64),
-            )
-        }
-        DateAnswer::Refused(number) => line_unless(number, Line::Ok3(zero, zero, zero)),
+    match answer {
+        DateAnswer::Date(date) => Line::Ok3(
+            Number::Natural(date.year as u64),
+            Number::Natural(date.month as u64),
+            Number::Natural(date.day as u64),
+        ),
+        DateAnswer::Refused(number) => Line::Refused(number),
     }
 }

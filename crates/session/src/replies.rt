@@ -45,8 +45,8 @@ fn reply_without_ledger(command: Command, book: &mut [u32]) -> Line
     ensures { λ r. ⌜ ((ledger : List ℕ) → (r ≡ reply (holding ledger (now (book .entry))) command) × (holding ledger (now (book .exit)) ≡ next (holding ledger (now (book .entry))) command)) ⌝ }
 {
     match command {
-        Command::Day { year, month, day } => day_line(year, month, day),
-        Command::Date { day } => date_line(day),
+        Command::Day { year, month, day } => day_line(calendar::day(year, month, day)),
+        Command::Date { day } => date_line(calendar::date(day)),
         Command::Price { index, value } => set_price(book, index, value),
         _ => Line::Refused(UNREADABLE),
     }

@@ -6,5 +6,16 @@
 //! scope, which gives the units, the day numbers and the house rules. Where the guidance's
 //! prose and the formula that it quotes from Regulation 29 differ, the formula decides.
 
+mod bits;
+pub mod book;
+pub mod calls;
+pub mod codes;
 pub mod dates;
+pub mod facts;
+pub mod layout;
+pub mod packed;
+pub mod postings;
 pub mod rates;
+pub mod refusals;
+pub mod session;
+mod well_formed;

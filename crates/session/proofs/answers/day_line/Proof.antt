@@ -1,39 +1,25 @@
--- `day_line` gives the line of what the calendar answers.
+-- `day_line` gives the line of each case.
 use borrow.Author.Needs.{needs}
 use Rattle.session.proofs.answers.day_line.Statement.{statement}
 use Rattle.session.proofs.answers.day_line.Tie as tie
+use Rattle.session.proofs.answers.day_line.Reads as reads
+use Rattle.session.proofs.answers.day_line.Lts as lts
 
-day-requires : tie.Need-day-requires
-day-requires c κs = search needs
+enum-known-answer : tie.Need-enum-known-answer
+enum-known-answer c = search needs
 
-enum-known-number : tie.Need-enum-known-number
-enum-known-number c = search needs
+cast-t5 : tie.Need-cast-t5
+cast-t5 c = search needs
 
-cast-t8 : tie.Need-cast-t8
-cast-t8 c = search needs
-
-enum-known-number-2 : tie.Need-enum-known-number-2
-enum-known-number-2 c = search needs
-
-line-unless-requires : tie.Need-line-unless-requires
-line-unless-requires c κs = search needs
+enum-known-answer-2 : tie.Need-enum-known-answer-2
+enum-known-answer-2 c = search needs
 
 returns : tie.Need-returns
-returns c =
-    let a = c .before in rw (← a .before .before .day .ensures, a .number .given .1)
+returns c = rw (c .before .answer .given .1)
 
 returns-2 : tie.Need-returns-2
-returns-2 c =
-    let a = c .before .before in rw (← a .before .before .day .ensures, a .number2 .given .1) (c .line-unless .ensures)
+returns-2 c = rw (c .before .answer2 .given .1)
 
 pub day-line-spec : {M : Type 1} → statement M
 day-line-spec =
-    tie.close
-    (tie.spec
-    day-requires
-    enum-known-number
-    cast-t8
-    enum-known-number-2
-    line-unless-requires
-    returns
-    returns-2)
+    tie.close (tie.spec enum-known-answer cast-t5 enum-known-answer-2 returns returns-2)

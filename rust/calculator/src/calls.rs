@@ -1,0 +1,143 @@
+//! The calls on a ledger with their numbers (document 01, section "Calls").
+
+/// The numbers of a bill or rebill.
+#[derive(Clone, Copy, Debug, PartialEq, Eq)]
+pub struct BillNumbers {
+    pub contract: u32,
+    pub first: u32,
+    pub last: u32,
+    pub kwh: u32,
+    /// S, the supply price in mils.
+    pub supply: u32,
+    /// The weighted price in mils, which is a flexible contract's R.
+    pub wap: u32,
+}
+
+/// A call on a ledger; any number may be given.
+#[derive(Clone, Debug, PartialEq)]
+pub enum Call {
+    Start {
+        territory: u32,
+    },
+    Open {
+        contract: u32,
+        fuel: u32,
+        kind: u32,
+        price_fix_day: u32,
+        entry_day: u32,
+    },
+    Bill(BillNumbers),
+    Rebill(BillNumbers),
+    Cert {
+        contract: u32,
+        class: u32,
+        effective_day: u32,
+    },
+    Cancel {
+        contract: u32,
+        first: u32,
+    },
+    Claim,
+    Report {
+        contract: u32,
+    },
+    Total,
+}
+
+/// The numbers answered, in the paper's order; or the refusal's number.
+pub type Outcome = Result<Vec<i64>, u32>;
+
+impl BillNumbers {
+    /// The numbers in the paper's order.
+    fn of(numbers: &[u32]) -> Option<BillNumbers> {
+        let &[contract, first, last, kwh, supply, wap] = numbers else {
+            return None;
+        };
+        Some(BillNumbers {
+            contract,
+            first,
+            last,
+            kwh,
+            supply,
+            wap,
+        })
+    }
+}
+
+impl Call {
+    /// The call of a name with its numbers in the paper's order, or `None` for an unknown
+    /// name or a wrong count of numbers.
+    pub fn of(name: &str, numbers: &[u32]) -> Option<Call> {
+        let call = match (name, numbers) {
+            ("start", &[territory]) => Call::Start { territory },
+            ("open", &[contract, fuel, kind, price_fix_day, entry_day]) => Call::Open {
+                contract,
+                fuel,
+                kind,
+                price_fix_day,
+                entry_day,
+            },
+            ("bill", numbers) => Call::Bill(BillNumbers::of(numbers)?),
+            ("rebill", numbers) => Call::Rebill(BillNumbers::of(numbers)?),
+            ("cert", &[contract, class, effective_day]) => Call::Cert {
+                contract,
+                class,
+                effective_day,
+            },
+            ("cancel", &[contract, first]) => Call::Cancel { contract, first },
+            ("claim", &[]) => Call::Claim,
+            ("report", &[contract]) => Call::Report { contract },
+            ("total", &[]) => Call::Total,
+            _ => return None,
+        };
+        Some(call)
+    }
+
+    /// The call's name.
+    pub fn name(&self) -> &'static str {
+        match self {
+            Call::Start { .. } => "start",
+            Call::Open { .. } => "open",
+            Call::Bill(_) => "bill",
+            Call::Rebill(_) => "rebill",
+            Call::Cert { .. } => "cert",
+            Call::Cancel { .. } => "cancel",
+            Call::Claim => "claim",
+            Call::Report { .. } => "report",
+            Call::Total => "total",
+        }
+    }
+
+    /// The call's numbers in the paper's order.
+    pub fn numbers(&self) -> Vec<u32> {
+        match *self {
+            Call::Start { territory } => vec![territory],
+            Call::Open {
+                contract,
+                fuel,
+                kind,
+                price_fix_day,
+                entry_day,
+            } => vec![contract, fuel, kind, price_fix_day, entry_day],
+            Call::Bill(bill) | Call::Rebill(bill) => {
+                let BillNumbers {
+                    contract,
+                    first,
+                    last,
+                    kwh,
+                    supply,
+                    wap,
+                } = bill;
+                vec![contract, first, last, kwh, supply, wap]
+            }
+            Call::Cert {
+                contract,
+                class,
+                effective_day,
+            } => vec![contract, class, effective_day],
+            Call::Cancel { contract, first } => vec![contract, first],
+            Call::Report { contract } => vec![contract],
+            Call::Claim | Call::Total => vec![],
+        }
+    }
+}

@@ -1,0 +1,160 @@
+//! Codes of territories, fuels, kinds and classes, and the ranges of days, kWh and prices
+//! (document 01, sections "Contracts and the price book" and "Turned down, in checking
+//! order", numbers 6 to 8).
+
+use crate::dates::LAST_DAY;
+use crate::rates::{Certificate, Fuel, Kind};
+use std::ops::RangeInclusive;
+
+/// The territory of a ledger.
+#[derive(Clone, Copy, Debug, PartialEq, Eq)]
+pub enum Territory {
+    GreatBritain,
+    NorthernIreland,
+}
+
+/// The number of 1 April 2023, the scheme's first day.
+pub const SCHEME_FIRST_DAY: u32 = 486;
+
+/// The number of 26 April 2023, the earliest effective day of a QHS certificate.
+pub const QHS_FIRST_DAY: u32 = 511;
+
+/// The most kWh of a bill.
+pub const MOST_KWH: u32 = 100_000_000;
+
+/// The highest price in mils.
+pub const HIGHEST_PRICE: u32 = 999_999;
+
+/// The code of a day-ahead index contract.
+const INDEX_CODE: u32 = 3;
+
+impl Territory {
+    /// The territory of a code, or `None` for a code without meaning.
+    pub fn of(code: u32) -> Option<Territory> {
+        match code {
+            0 => Some(Territory::GreatBritain),
+            1 => Some(Territory::NorthernIreland),
+            _ => None,
+        }
+    }
+
+    /// The territory's code.
+    pub fn code(self) -> u32 {
+        match self {
+            Territory::GreatBritain => 0,
+            Territory::NorthernIreland => 1,
+        }
+    }
+}
+
+impl Fuel {
+    /// The fuel of a code, or `None` for a code without meaning.
+    pub fn of(code: u32) -> Option<Fuel> {
+        match code {
+            0 => Some(Fuel::Electricity),
+            1 => Some(Fuel::Gas),
+            _ => None,
+        }
+    }
+
+    /// The fuel's code.
+    pub fn code(self) -> u32 {
+        match self {
+            Fuel::Electricity => 0,
+            Fuel::Gas => 1,
+        }
+    }
+}
+
+impl Kind {
+    /// The kind of a code, with its days if it is fixed, or `None` for a code without
+    /// meaning.
+    pub fn of(code: u32, price_fix_day: u32, entry_day: u32) -> Option<Kind> {
+        match code {
+            0 => Some(Kind::Fixed {
+                price_fix_day,
+                entry_day,
+            }),
+            1 => Some(Kind::Variable),
+            2 => Some(Kind::Flexible),
+            INDEX_CODE => Some(Kind::DayAheadIndex),
+            _ => None,
+        }
+    }
+
+    /// The kind's code, price-fix day and entry day; the days are 0 unless it is fixed.
+    pub fn numbers(self) -> (u32, u32, u32) {
+        match self {
+            Kind::Fixed {
+                price_fix_day,
+                entry_day,
+            } => (0, price_fix_day, entry_day),
+            Kind::Variable => (1, 0, 0),
+            Kind::Flexible => (2, 0, 0),
+            Kind::DayAheadIndex => (INDEX_CODE, 0, 0),
+        }
+    }
+}
+
+impl Certificate {
+    /// The certificate of a class code and an effective day, or `None` for a code without
+    /// meaning.
+    pub fn of(class: u32, effective_day: u32) -> Option<Certificate> {
+        match class {
+            0 => Some(Certificate::None),
+            1 => Some(Certificate::Etii { effective_day }),
+            2 => Some(Certificate::Qhs { effective_day }),
+            _ => None,
+        }
+    }
+
+    /// The class code and the effective day, which is 0 without a certificate.
+    pub fn numbers(self) -> (u32, u32) {
+        match self {
+            Certificate::None => (0, 0),
+            Certificate::Etii { effective_day } => (1, effective_day),
+            Certificate::Qhs { effective_day } => (2, effective_day),
+        }
+    }
+
+    /// The effective days that a certificate may have; only 0 without one.
+    fn effective_days(self) -> RangeInclusive<u32> {
+        match self {
+            Certificate::None => 0..=0,
+            Certificate::Etii { .. } => SCHEME_FIRST_DAY..=LAST_DAY,
+            Certificate::Qhs { .. } => QHS_FIRST_DAY..=LAST_DAY,
+        }
+    }
+}
+
+/// Number 6: whether a kind may be had by contracts of the fuel in the territory. Index
+/// contracts are for electricity in a Northern Ireland ledger only.
+pub(crate) fn kind_in_its_place(territory: Territory, fuel: Fuel, kind: Kind) -> bool {
+    kind != Kind::DayAheadIndex
+        || (fuel == Fuel::Electricity && territory == Territory::NorthernIreland)
+}
+
+/// Number 7: whether a contract's price-fix and entry day are at most 851, and 0 unless it
+/// is fixed.
+pub(crate) fn contract_days_in_range(kind: Kind, price_fix_day: u32, entry_day: u32) -> bool {
+    let last_day = match kind {
+        Kind::Fixed { .. } => LAST_DAY,
+        Kind::Variable | Kind::Flexible | Kind::DayAheadIndex => 0,
+    };
+    price_fix_day <= last_day && entry_day <= last_day
+}
+
+/// Number 7: whether a certificate's effective day is one that its class may have.
+pub(crate) fn effective_day_in_range(certificate: Certificate, effective_day: u32) -> bool {
+    certificate.effective_days().contains(&effective_day)
+}
+
+/// Number 7: whether 486 ≤ first ≤ last ≤ 851.
+pub(crate) fn span_in_range(first_day: u32, last_day: u32) -> bool {
+    SCHEME_FIRST_DAY <= first_day && first_day <= last_day && last_day <= LAST_DAY
+}
+
+/// Whether two spans share a day.
+pub(crate) fn spans_share_a_day(one: (u32, u32), other: (u32, u32)) -> bool {
+    one.0 <= other.1 && other.0 <= one.1
+}
