@@ -2,7 +2,6 @@
 use mathlib.Core.Path.{_≡_, refl, sym, _∙_}
 use mathlib.Core.Bool.{Bool, true, not}
 use mathlib.Core.List.{List, [], _∷_, map}
-use mathlib.Core.Logic.{inl, inr}
 use Prim.Native.Nat.{ℕ, suc, _≤_}
 use native.Mathlib.Omega.{arith}
 use lib.Arith.{lt-of-le-ne}
@@ -12,7 +11,8 @@ use types.Run.{OneOf}
 use denote.Enum.Declared.{tagOf}
 use borrow.Author.Tests.{eqb-false}
 use Rattle.basics.specs.Tests.{every}
-use Rattle.basics.proofs.Tests.{and-left, and-right, not-yes}
+use Rattle.basics.proofs.Tests.{not-yes}
+use Rattle.basics.proofs.Keys.{each-key}
 use Rattle.text.specs.declared.reading.Command.{Command}
 use Rattle.text.proofs.reading.Command.{the-type}
 use Rattle.session.specs.CommandGroups.{group}
@@ -39,13 +39,6 @@ group-at (Command.Day year month day) = refl
 group-at (Command.Date day) = refl
 group-at (Command.Price index value) = refl
 group-at Command.Unreadable = refl
-
--- a test that each key of a list meets
-each-key : (p : ℕ → Bool) (keys : List ℕ) (x : ℕ) → every (map p keys) ≡ true → OneOf keys x → p x ≡ true
-each-key p [] x h o = absurd o
-each-key p (k ∷ []) x h o = rw o (and-left (p k) true h)
-each-key p (k ∷ l ∷ keys) x h (inl o) = rw o (and-left (p k) (every (map p (l ∷ keys))) h)
-each-key p (k ∷ l ∷ keys) x h (inr o) = each-key p (l ∷ keys) x (and-right (p k) (every (map p (l ∷ keys))) h) o
 
 abbrev pub otherThan : ℕ → ℕ → Bool
 otherThan k x = not (eqb (getD groups x 0) k)

@@ -1,0 +1,20 @@
+-- `ebds_cancel` gives what the call answers, and leaves what it leaves.
+use Rattle.ebds_c.proofs.AnswersFit.{machine-fits, same-fits, same-given}
+use borrow.Author.Needs.{needs}
+use Rattle.ebds_c.proofs.ebds_cancel.Statement.{statement}
+use Rattle.ebds_c.proofs.ebds_cancel.Tie as tie
+
+cancel-requires : tie.Need-cancel-requires
+cancel-requires c κs = search needs
+
+give-requires : tie.Need-give-requires
+give-requires c κs = same-fits (c .before .before .before .cancel .ensures .0) (machine-fits _ _)
+
+same-length : tie.Need-same-length
+same-length c = search needs
+
+returns : tie.Need-returns
+returns c = let said = c .before .before .before .before .cancel .ensures in (same-given (said .0) (c .give .ensures), said .1)
+
+pub ebds-cancel-spec : {M : Type 1} → statement M
+ebds-cancel-spec = tie.close (tie.spec cancel-requires give-requires same-length returns)
