@@ -1,1 +1,34 @@
-//! To come.
+//! The proved discount ledger of the Energy Bills Discount Scheme, from Rust.
+//!
+//! [`Ledger`] owns a packed ledger and takes and answers typed values; [`calls`] has the same
+//! calls on bytes of any length and with any numbers. Both go through the C library of
+//! include/ebds.h. The terms are those of document 01, "The discount ledger of the Energy Bills
+//! Discount Scheme".
+
+pub mod calls;
+mod ledger;
+mod refusal;
+
+pub use ledger::{
+    Billed, Cancelled, Certificate, Certified, Claimed, Fuel, Kind, Ledger, Rebilled, Reported,
+    Territory, Totalled,
+};
+pub use refusal::Refusal;
+
+/// The length of a packed ledger in bytes.
+pub const LEDGER_LENGTH: usize = 18_760;
+
+/// How many prices a book has.
+pub const BOOK_LENGTH: usize = 1_740;
+
+/// The numbers of a bill or rebill: its contract, first and last day, kWh, and the supply price
+/// S and the weighted price WAP in mils. WAP is 0 unless the contract is flexible.
+#[derive(Clone, Copy, Debug)]
+pub struct BillNumbers {
+    pub contract: u32,
+    pub first: u32,
+    pub last: u32,
+    pub kwh: u32,
+    pub supply: u32,
+    pub wap: u32,
+}

@@ -1,0 +1,85 @@
+/*
+ * A ledger from C: a flexible electricity contract is opened, billed and claimed for; then an ETII
+ * certificate comes late, and the next claim takes the difference. It prints ledger.out. From the
+ * repository's root:
+ *
+ *   rt staticlib ebds_c && gcc -std=c11 -Wall -Wextra -O2 -I include examples/c/ledger.c \
+ *       target/staticlib/libebds_c.a -o target/ledger_example && target/ledger_example
+ */
+#include <inttypes.h>
+#include <stdio.h>
+
+#include "ebds.h"
+
+/* The codes of document 01 that are used here. */
+enum { GREAT_BRITAIN = 0, ELECTRICITY = 0, FLEXIBLE = 2, ETII = 1 };
+
+/* The contract's number. */
+enum { CONTRACT = 0 };
+
+static uint8_t ledger[EBDS_LEDGER_LENGTH];
+
+/* No price is published: a flexible contract's bills bring their own weighted price. */
+static const uint32_t book[EBDS_BOOK_LENGTH];
+
+/* Prints what a call gave back. */
+static void print(const char *call, uint32_t refusal, const int64_t answer[3])
+{
+    if (refusal != 0) {
+        printf("%s: refused %" PRIu32 "\n", call, refusal);
+        return;
+    }
+    printf("%s: %" PRId64 " %" PRId64 " %" PRId64 "\n", call, answer[0], answer[1], answer[2]);
+}
+
+/* The day number of a date. */
+static uint32_t day_number(uint32_t year, uint32_t month, uint32_t day)
+{
+    int64_t answer[3];
+    uint32_t refusal = ebds_day(year, month, day, answer);
+
+    print("day", refusal, answer);
+    return (uint32_t)answer[0];
+}
+
+/* Bills 1,000 kWh from the first to the last day, at a supply price of 67.03p and a WAP of 31.98p. */
+static void bill(uint32_t first, uint32_t last)
+{
+    int64_t answer[3];
+    uint32_t refusal = ebds_bill(ledger, sizeof ledger, book, EBDS_BOOK_LENGTH, CONTRACT, first,
+                                 last, 1000, 67030, 31980, answer);
+
+    print("bill", refusal, answer);
+}
+
+/* Claims what is due. */
+static void claim(void)
+{
+    int64_t answer[3];
+    uint32_t refusal = ebds_claim(ledger, sizeof ledger, answer);
+
+    print("claim", refusal, answer);
+}
+
+int main(void)
+{
+    int64_t answer[3];
+    uint32_t refusal;
+    uint32_t first = day_number(2023, 4, 1);
+    uint32_t last = day_number(2023, 4, 30);
+
+    refusal = ebds_start(ledger, sizeof ledger, GREAT_BRITAIN, answer);
+    print("start", refusal, answer);
+    refusal = ebds_open(ledger, sizeof ledger, CONTRACT, ELECTRICITY, FLEXIBLE, 0, 0, answer);
+    print("open", refusal, answer);
+    bill(first, last);
+    claim();
+    refusal = ebds_cert(ledger, sizeof ledger, CONTRACT, ETII, first, answer);
+    print("cert", refusal, answer);
+    claim();
+    refusal = ebds_report(ledger, sizeof ledger, CONTRACT, answer);
+    print("report", refusal, answer);
+    /* The same days once more: number 10. */
+    bill(first, last);
+    return 0;
+}

@@ -1,0 +1,202 @@
+//! The header, the contracts and the rows in their bytes (document 01, section "The packed
+//! ledger, 18,760 bytes").
+
+use crate::contracts::{Certificate, Contract, Fuel, Kind};
+
+/// The length of a ledger in bytes.
+pub const LEDGER_LENGTH: usize = 18_760;
+
+/// How many contracts a ledger has room for.
+pub const CONTRACT_COUNT: usize = 64;
+
+/// How many rows a ledger has room for.
+pub const ROW_COUNT: usize = 1_024;
+
+/// The byte at which the contracts begin.
+const CONTRACTS_AT: usize = 8;
+
+/// The byte at which the rows begin.
+const ROWS_AT: usize = 328;
+
+/// The bytes of a contract.
+pub type ContractSlot = [u8; 5];
+
+/// The bytes of a row.
+pub type RowSlot = [u8; 18];
+
+/// The bytes of a row that isn't held.
+pub const UNHELD: RowSlot = [0; 18];
+
+/// The contract slots of a ledger.
+pub fn contract_slots(ledger: &[u8]) -> &[ContractSlot] {
+    ledger[CONTRACTS_AT..ROWS_AT].as_chunks().0
+}
+
+/// The contract slots of a ledger, to write.
+pub fn contract_slots_mut(ledger: &mut [u8]) -> &mut [ContractSlot] {
+    ledger[CONTRACTS_AT..ROWS_AT].as_chunks_mut().0
+}
+
+/// The row slots of a ledger.
+pub fn row_slots(ledger: &[u8]) -> &[RowSlot] {
+    ledger[ROWS_AT..].as_chunks().0
+}
+
+/// The row slots of a ledger, to write.
+pub fn row_slots_mut(ledger: &mut [u8]) -> &mut [RowSlot] {
+    ledger[ROWS_AT..].as_chunks_mut().0
+}
+
+/// The eight bytes from byte `at` on, as one word.
+fn word_at(bytes: &[u8], at: usize) -> u64 {
+    let mut word = [0; 8];
+    word.copy_from_slice(&bytes[at..at + 8]);
+    u64::from_be_bytes(word)
+}
+
+/// The `width` bits of a word, fewer than 63, that have `below` bits below them.
+fn field(word: u64, below: u32, width: u32) -> i64 {
+    ((word >> below) & ((1 << width) - 1)) as i64
+}
+
+/// The same, for a code, a day or a count of at most 32 bits.
+fn short_field(word: u64, below: u32, width: u32) -> u32 {
+    field(word, below, width) as u32
+}
+
+/// The header.
+#[derive(Clone, Copy)]
+pub struct Header {
+    pub territory: u32,
+    pub claims: u32,
+    pub pence: i64,
+}
+
+impl Header {
+    /// The header of a ledger.
+    pub fn unpack(ledger: &[u8]) -> Header {
+        let word = word_at(ledger, 0);
+        Header {
+            territory: short_field(word, 63, 1),
+            claims: short_field(word, 47, 16),
+            pence: field(word, 0, 47),
+        }
+    }
+
+    /// Writes the header to a ledger.
+    pub fn pack(self, ledger: &mut [u8]) {
+        let word =
+            u64::from(self.territory) << 63 | u64::from(self.claims) << 47 | self.pence as u64;
+        ledger[..CONTRACTS_AT].copy_from_slice(&word.to_be_bytes());
+    }
+}
+
+impl Contract {
+    /// The contract that a slot holds, or `None` where its numbers aren't in their ranges.
+    #[inline]
+    pub fn unpack(slot: &ContractSlot, territory: u32) -> Option<Contract> {
+        let [a, b, c, d, e] = *slot;
+        let word = u64::from_be_bytes([0, 0, 0, a, b, c, d, e]);
+        if field(word, 39, 1) == 0 || field(word, 0, 4) != 0 {
+            return None;
+        }
+        let contract = Contract::from_numbers(
+            territory,
+            short_field(word, 38, 1),
+            short_field(word, 36, 2),
+            short_field(word, 26, 10),
+            short_field(word, 16, 10),
+        );
+        let certificate =
+            Certificate::from_numbers(short_field(word, 14, 2), short_field(word, 4, 10));
+        Some(contract.ok()?.with(certificate.ok()?))
+    }
+
+    /// The slot that holds the contract.
+    pub fn pack(&self) -> ContractSlot {
+        let fuel = match self.fuel {
+            Fuel::Electricity => 0,
+            Fuel::Gas => 1,
+        };
+        let (kind, price_fix_day, entry_day) = match self.kind {
+            Kind::Fixed {
+                price_fix_day,
+                entry_day,
+            } => (0, price_fix_day, entry_day),
+            Kind::Variable => (1, 0, 0),
+            Kind::Flexible => (2, 0, 0),
+            Kind::Index => (3, 0, 0),
+        };
+        let (class, effective_day) = match self.certificate {
+            Certificate::None => (0, 0),
+            Certificate::Etii { effective_day } => (1, effective_day),
+            Certificate::Qhs { effective_day } => (2, effective_day),
+        };
+        let word = 1 << 39
+            | fuel << 38
+            | kind << 36
+            | u64::from(price_fix_day) << 26
+            | u64::from(entry_day) << 16
+            | class << 14
+            | u64::from(effective_day) << 4;
+        let [_, _, _, slot @ ..] = word.to_be_bytes();
+        slot
+    }
+}
+
+/// A held row.
+#[derive(Clone, Copy)]
+pub struct Row {
+    pub contract: u32,
+    pub first: u32,
+    pub last: u32,
+    pub kwh: i64,
+    pub reference: i64,
+    pub supply: i64,
+    pub amount: i64,
+}
+
+impl Row {
+    /// Whether a slot is held.
+    pub fn is_held(slot: &RowSlot) -> bool {
+        slot[0] >> 7 == 1
+    }
+
+    /// The row that a slot holds. The slot is read as three words that overlap, from bytes 0,
+    /// 8 and 10 on; R alone straddles the first two.
+    pub fn unpack(slot: &RowSlot) -> Row {
+        let (start, middle, end) = (word_at(slot, 0), word_at(slot, 8), word_at(slot, 10));
+        Row {
+            contract: short_field(start, 57, 6),
+            first: short_field(start, 47, 10),
+            last: short_field(start, 37, 10),
+            kwh: field(start, 10, 27),
+            reference: field(start, 0, 10) << 10 | field(middle, 54, 10),
+            supply: field(middle, 34, 20),
+            amount: field(end, 0, 50),
+        }
+    }
+
+    /// The slot that holds the row.
+    pub fn pack(&self) -> RowSlot {
+        let start = 1 << 63
+            | u64::from(self.contract) << 57
+            | u64::from(self.first) << 47
+            | u64::from(self.last) << 37
+            | (self.kwh as u64) << 10
+            | (self.reference as u64) >> 10;
+        let middle =
+            (self.reference as u64) << 54 | (self.supply as u64) << 34 | (self.amount as u64) >> 16;
+        let mut slot = [0; 18];
+        slot[..8].copy_from_slice(&start.to_be_bytes());
+        slot[8..16].copy_from_slice(&middle.to_be_bytes());
+        slot[16..].copy_from_slice(&(self.amount as u16).to_be_bytes());
+        slot
+    }
+
+    /// What the rows are sorted by, of the row that a slot holds: contract and first day.
+    pub fn sort_key(slot: &RowSlot) -> (u32, u32) {
+        let start = word_at(slot, 0);
+        (short_field(start, 57, 6), short_field(start, 47, 10))
+    }
+}

@@ -1,0 +1,26 @@
+//! The numbers of document 01's section "Turned down, in checking order".
+
+/// The ledger isn't well formed.
+pub const NOT_WELL_FORMED: u32 = 2;
+/// The book of a bill or rebill isn't 1,740 entries or has one above 999,999.
+pub const BAD_BOOK: u32 = 3;
+/// The contract number is above 63.
+pub const NO_SUCH_CONTRACT: u32 = 4;
+/// The contract is open already, or isn't open.
+pub const WRONGLY_OPEN: u32 = 5;
+/// A territory, fuel, kind or class code has no meaning, or kind 3 is given outside its place.
+pub const WRONG_CODE: u32 = 6;
+/// A day is wrong.
+pub const WRONG_DAY: u32 = 7;
+/// kWh, S or WAP is out of its range.
+pub const WRONG_QUANTITY: u32 = 8;
+/// No row of that contract has that first day.
+pub const NO_SUCH_ROW: u32 = 9;
+/// Another row of the contract shares a day with the span.
+pub const SHARED_DAY: u32 = 10;
+/// The book's price needed is 0.
+pub const NO_PRICE: u32 = 11;
+/// 1,024 rows are held already.
+pub const NO_ROOM: u32 = 12;
+/// 1,000 claims were made already.
+pub const NO_CLAIM_LEFT: u32 = 13;
