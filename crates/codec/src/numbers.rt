@@ -15,6 +15,14 @@ pub fn get(s: &[u8], at: usize, w: usize) -> u32
     fields::get(s, at, w) as u32
 }
 
+// The same, all of it in the window of eight bytes from byte `first` on.
+pub fn get_window(s: &[u8], first: usize, at: usize, w: usize) -> u32
+    requires { ⌜ (0 < w) × ((w ≤ 32) × ((first + 8 ≤ length (now s)) × ((8 * first ≤ at) × (at + w ≤ 8 * first + 64)))) ⌝ }
+    ensures { λ r. ⌜ r ≡ fieldAt (now (s .entry)) at w ⌝ }
+{
+    fields::get_window(s, first, at, w) as u32
+}
+
 // Writes the values into the fields of these widths, one after the other from the first bit on.
 pub fn put_all(s: &mut [u8], widths: &[usize], values: &[u64])
     requires { ⌜ (sum (now widths) ≤ 8 * length (now s)) × ((sum (now widths) < 2 ^ 64) × ((widthsOk (now widths) ≡ true) × Fit (now widths) (now values))) ⌝ }

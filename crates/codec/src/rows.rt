@@ -1,5 +1,5 @@
 // A row in its 18 bytes.
-use crate::numbers::get;
+use crate::numbers::get_window;
 use crate::numbers::put_all;
 use model::Row;
 use rates::Bill;
@@ -14,24 +14,24 @@ pub fn is_held(s: &[u8]) -> bool
     requires { ⌜ length (now s) ≡ 18 ⌝ }
     ensures { λ r. ⌜ r ≡ isTaken rowKind (now (s .entry)) ⌝ }
 {
-    get(s, 0, 1) != 0
+    get_window(s, 0, 0, 1) != 0
 }
 
-// The row that a slot holds.
+// The row that a slot holds, out of three windows of eight bytes: from byte 0, 6 and 10 on.
 pub fn unpack_row(s: &[u8]) -> Row
     requires { ⌜ length (now s) ≡ 18 ⌝ }
     ensures { λ r. ⌜ r ≡ recordIn rowKind (now (s .entry)) ⌝ }
 {
     Row {
         bill: Bill {
-            contract: get(s, 1, 6),
-            first: get(s, 7, 10),
-            last: get(s, 17, 10),
-            kwh: get(s, 27, 27),
-            reference: get(s, 54, 20),
-            supply: get(s, 74, 20),
+            contract: get_window(s, 0, 1, 6),
+            first: get_window(s, 0, 7, 10),
+            last: get_window(s, 0, 17, 10),
+            kwh: get_window(s, 0, 27, 27),
+            reference: get_window(s, 6, 54, 20),
+            supply: get_window(s, 6, 74, 20),
         },
-        amount: fields::get(s, 94, 50),
+        amount: fields::get_window(s, 10, 94, 50),
     }
 }
 

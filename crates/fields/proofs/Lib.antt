@@ -2,5 +2,6 @@
 -- `Vectors` worked examples.
 mod Bits
 pub mod Laws
+mod Windows
 mod Words
 mod Vectors

@@ -21,6 +21,15 @@ fn window_start(len: usize, at: usize, w: usize) -> usize
     if first < len - 8 { first } else { len - 8 }
 }
 
+// What the field of w bits from bit `at` on holds, all of it in the window of eight bytes from byte `first` on. Where `first` is known
+// beforehand, several fields of one window take one load.
+pub fn get_window(s: &[u8], first: usize, at: usize, w: usize) -> u64
+    requires { ⌜ (0 < w) × ((w ≤ 57) × ((first + 8 ≤ length (now s)) × ((8 * first ≤ at) × (at + w ≤ 8 * first + 64)))) ⌝ }
+    ensures { λ r. ⌜ r ≡ fieldAt (now (s .entry)) at w ⌝ }
+{
+    extract(load(s, first, 8), 64 - (at - first * 8) - w, w)
+}
+
 // What the field of w bits from bit `at` on holds. Eight bytes are loaded at once, or all of a shorter
 // slice.
 pub fn get(s: &[u8], at: usize, w: usize) -> u64
@@ -29,11 +38,18 @@ pub fn get(s: &[u8], at: usize, w: usize) -> u64
 {
     let n = s.len();
     if n < 8 {
-        extract(load(s, 0, n), n * 8 - at - w, w)
-    } else {
-        let first = window_start(n, at, w);
-        extract(load(s, first, 8), 64 - (at - first * 8) - w, w)
+        return extract(load(s, 0, n), n * 8 - at - w, w);
     }
+    get_window(s, window_start(n, at, w), at, w)
+}
+
+// Puts v in the field of w bits from bit `at` on, all of it in the window of eight bytes from byte `first` on, and changes no other bit.
+pub fn put_window(s: &mut [u8], first: usize, at: usize, w: usize, v: u64)
+    requires { ⌜ (0 < w) × ((w ≤ 57) × ((first + 8 ≤ length (now s)) × ((8 * first ≤ at) × ((at + w ≤ 8 * first + 64) × (v < 2 ^ w))))) ⌝ }
+    ensures { λ _. ⌜ now (s .exit) ≡ setField (now (s .entry)) at w v ⌝ }
+{
+    let x = insert(load(s, first, 8), 64 - (at - first * 8) - w, w, v);
+    store(s, first, 8, x);
 }
 
 // Puts v in the field of w bits from bit `at` on, and changes no other bit.
@@ -45,9 +61,7 @@ pub fn put(s: &mut [u8], at: usize, w: usize, v: u64)
     if n < 8 {
         let x = insert(load(s, 0, n), n * 8 - at - w, w, v);
         store(s, 0, n, x);
-    } else {
-        let first = window_start(n, at, w);
-        let x = insert(load(s, first, 8), 64 - (at - first * 8) - w, w, v);
-        store(s, first, 8, x);
+        return;
     }
+    put_window(s, window_start(n, at, w), at, w, v);
 }

@@ -1,18 +1,20 @@
 -- Bytes put in, taken out and written over: their lengths, a part that is lent and edited, and the steps of the loops that copy,
 -- write, clear and test bytes. Assumes nothing.
-use mathlib.Core.Path.{_≡_, sym, ap, ap₂, _∙_}
-use mathlib.Core.Bool.{true, false}
-use mathlib.Core.List.{List, _∷_, _++_, append-assoc, append-nil}
+use mathlib.Core.Path.{_≡_, refl, sym, ap, ap₂, _∙_}
+use mathlib.Core.Bool.{true≢false}
+use mathlib.Core.List.{List, _∷_, _++_, map, append-assoc, append-nil}
 use Prim.Native.Nat.{ℕ, _+_, _-_, _≤_, _<_}
 use native.Mathlib.Numerals.{add-one}
 use native.Mathlib.Omega.{arith}
+use borrow.Author.Count.{below-none, below-more}
 use borrow.Rule.Slice.PartMut.{midOf, putMid, post-is}
+use lib.Bits.{bitOr, or-zero-l, or-add-and, and-le-l, and-le-r}
 use lib.Dec.{eqb}
-use lib.ListN.{length, take, drop, getD, set, replicate, length-append, length-drop, length-replicate, take-append-drop, List·getD-append}
+use lib.ListN.{length, take, drop, getD, set, replicate, length-append, length-drop, length-replicate, take-append-drop, List·getD-append, List·getD-map}
 use lib.Seq.{length-take-le, take-all, take-at, drop-at, set-at, take-take, take-suc, take-length, drop-cons, drop-length, append-snoc, take-append-le, getD-take, getD-drop, paste, paste-suc, drop-paste}
-use Rattle.basics.proofs.Tests.{yes-eq, no-eq}
+use Rattle.basics.proofs.Tests.{either, yes-eq, no-eq, eq-yes, every-at}
 use Rattle.records.specs.Edits.{insertAt, removeAt, replaceAt, zeroAt, onPart, copied}
-use Rattle.records.proofs.Lists.{at-every-map, fails-every-map}
+use Rattle.records.proofs.Lists.{at-every-map}
 
 -- ---- lengths
 
@@ -147,22 +149,37 @@ fill-all b d i e h l =
     e ∙ ap (λ (k : ℕ). replicate k 0 ++ drop k b) q ∙ ap (λ (r : List ℕ). replicate (length b) 0 ++ r) (drop-length b)
     ∙ append-nil (replicate (length b) 0)
 
-module _ (b : List ℕ) (at n i : ℕ) (h : at + n ≤ length b) where
-  length-tested : length (take n (drop at b)) ≡ n
-  length-tested = length-take-le n (drop at b) (omega (arith, length-drop at b))
+-- `bits` is zero exactly where n bytes of b from byte `at` on are
+pub record ZeroWhere (b : List ℕ) (at n bits : ℕ) : Type 0 where
+  pub zeros : bits ≡ 0 → (k : ℕ) → k < n → getD b (at + k) 0 ≡ 0
+  pub zero-bits : ((k : ℕ) → k < n → getD b (at + k) 0 ≡ 0) → bits ≡ 0
 
-  tested : (k : ℕ) → k < n → getD (take n (drop at b)) k 0 ≡ getD b (at + k) 0
-  tested k l = getD-take n (drop at b) k 0 l ∙ getD-drop at b k 0
+pub zero-none : (b : List ℕ) (at : ℕ) → ZeroWhere b at 0 0
+zero-none b at = record { zeros = λ e. below-none _; zero-bits = λ z. refl }
 
-  -- each byte tested is zero
-  pub zeroAt-yes : n ≤ i → ((k : ℕ) → k < i → getD b (at + k) 0 ≡ 0) → true ≡ zeroAt at n b
-  unfolding zeroAt
-  zeroAt-yes l z =
-      sym (at-every-map (λ x. eqb x 0) 0 (take n (drop at b))
-      (λ k m. let o : k < n = omega (arith, length-tested) in yes-eq _ 0 (tested k o ∙ z k (omega arith))))
+or-zero : (x y : ℕ) → bitOr x y ≡ 0 → (x ≡ 0) × (y ≡ 0)
+or-zero x y e = (omega (arith, or-add-and x y, and-le-r x y), omega (arith, or-add-and x y, and-le-l x y))
 
-  -- one is not
-  pub zeroAt-no : i < n → (getD b (at + i) 0 ≡ 0 → ⊥) → false ≡ zeroAt at n b
-  unfolding zeroAt
-  zeroAt-no l z =
-      sym (fails-every-map (λ x. eqb x 0) 0 (take n (drop at b)) i (omega (arith, length-tested)) (no-eq _ 0 (λ e. z (sym (tested i l) ∙ e))))
+-- one byte more
+pub zero-next : (b : List ℕ) (at i bits : ℕ) → ZeroWhere b at i bits → ZeroWhere b at (i + 1) (bitOr bits (getD b (at + i) 0))
+zero-next b at i bits z = record {
+  zeros = λ e. let parts = or-zero bits (getD b (at + i) 0) e in below-more _ _ (z .zeros (parts .0)) (parts .1);
+  zero-bits = λ f. rw (z .zero-bits (λ k l. f k (omega arith)), f i (omega arith)) (or-zero-l 0);
+}
+
+-- all bytes tested
+pub zero-all : (b : List ℕ) (at n bits : ℕ) → at + n ≤ length b → ZeroWhere b at n bits → eqb bits 0 ≡ zeroAt at n b
+unfolding zeroAt
+zero-all b at n bits h z =
+    either (zeroAt at n b)
+    (λ e. yes-eq bits 0 (z .zero-bits (λ k l. sym (tested k l) ∙ eq-yes _ 0 (sym (List·getD-map (λ x. eqb x 0) l0 k 0) ∙ every-at (map (λ x. eqb x 0) l0) e k))) ∙ sym e)
+    (λ e. no-eq bits 0 (λ f. true≢false (sym (at-every-map (λ x. eqb x 0) 0 l0 (λ k m. let o : k < n = omega (arith, length-tested) in yes-eq _ 0 (tested k o ∙ z .zeros f k o))) ∙ e)) ∙ sym e)
+  where
+    l0 : List ℕ
+    l0 = take n (drop at b)
+
+    length-tested : length l0 ≡ n
+    length-tested = length-take-le n (drop at b) (omega (arith, length-drop at b))
+
+    tested : (k : ℕ) → k < n → getD l0 k 0 ≡ getD b (at + k) 0
+    tested k l = getD-take n (drop at b) k 0 l ∙ getD-drop at b k 0

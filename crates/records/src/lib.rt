@@ -27,19 +27,18 @@ pub fn clear(b: &mut [u8])
     }
 }
 
-// Whether n bytes from byte `at` on are zero.
+// Whether n bytes from byte `at` on are zero. It reads on after one that isn't: of this form LLVM makes steps of many bytes.
 pub fn is_zero(b: &[u8], at: usize, n: usize) -> bool
     requires { ⌜ at + n ≤ length (now b) ⌝ }
     ensures { λ r. ⌜ r ≡ zeroAt at n (now (b .entry)) ⌝ }
 {
+    let mut bits: u8 = 0;
     let mut i = 0;
     while i < n {
-        if b[at + i] != 0 {
-            return false;
-        }
+        bits = bits | b[at + i];
         i += 1;
     }
-    true
+    bits == 0
 }
 
 // Copies n bytes from byte `from` on to byte `to` on, the last one first: the bytes written may be among those read.

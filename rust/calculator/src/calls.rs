@@ -1,4 +1,7 @@
-//! The calls on a ledger with their numbers (document 01, section "Calls").
+//! The calls with their numbers (document 01, section "Calls"), and those that read no ledger.
+
+use crate::dates::{date_of, day_number};
+use crate::refusals::WRONG_DAY;
 
 /// The numbers of a bill or rebill.
 #[derive(Clone, Copy, Debug, PartialEq, Eq)]
@@ -46,6 +49,18 @@ pub enum Call {
 
 /// The numbers answered, in the paper's order; or the refusal's number.
 pub type Outcome = Result<Vec<i64>, u32>;
+
+/// The call day: answers the day number of a date.
+pub fn day(year: u32, month: u32, day: u32) -> Outcome {
+    let number = day_number(year, month, day).ok_or(WRONG_DAY)?;
+    Ok(vec![number.into()])
+}
+
+/// The call date: answers year, month and day of a day number.
+pub fn date(day_number: u32) -> Outcome {
+    let date = date_of(day_number).ok_or(WRONG_DAY)?;
+    Ok([date.year, date.month, date.day].map(i64::from).to_vec())
+}
 
 impl BillNumbers {
     /// The numbers in the paper's order.

@@ -154,7 +154,10 @@ pub(crate) fn span_in_range(first_day: u32, last_day: u32) -> bool {
     SCHEME_FIRST_DAY <= first_day && first_day <= last_day && last_day <= LAST_DAY
 }
 
-/// Whether two spans share a day.
-pub(crate) fn spans_share_a_day(one: (u32, u32), other: (u32, u32)) -> bool {
-    one.0 <= other.1 && other.0 <= one.1
+/// Whether two spans, each a first and a last day, share a day.
+pub fn spans_share_a_day(
+    (first_day, last_day): (u32, u32),
+    (other_first_day, other_last_day): (u32, u32),
+) -> bool {
+    first_day <= other_last_day && other_first_day <= last_day
 }

@@ -1,1 +1,54 @@
-fn main() {}
+//! Holds the program, the C library and the twin to the calculator: every line printed, every
+//! outcome and every byte of the ledger. It prints what it met, and fails on a difference and
+//! where something was met too few times to count as compared.
+
+mod books;
+mod compared_calls;
+mod counts;
+mod damaged_ledgers;
+mod damages;
+mod dates;
+mod generator;
+mod implementations;
+mod library_histories;
+mod program_sessions;
+mod random;
+mod rows_met;
+mod session_text;
+mod unreadable_lines;
+
+use counts::Findings;
+use std::env;
+use std::process::ExitCode;
+
+/// The seed unless another is given.
+const SEED: u64 = 20_240_331;
+
+fn main() -> ExitCode {
+    let Some(seed) = seed() else {
+        eprintln!("usage: comparisons [SEED]");
+        return ExitCode::from(2);
+    };
+    println!("seed {seed}");
+    let mut findings = Findings::new();
+    program_sessions::compare(&mut findings, seed);
+    dates::compare(&mut findings);
+    library_histories::compare(&mut findings, seed);
+    damaged_ledgers::compare(&mut findings, seed);
+    findings.print();
+    if findings.passed() {
+        ExitCode::SUCCESS
+    } else {
+        ExitCode::FAILURE
+    }
+}
+
+/// The seed given as the only argument, or the usual one without arguments.
+fn seed() -> Option<u64> {
+    let arguments: Vec<String> = env::args().skip(1).collect();
+    match arguments.as_slice() {
+        [] => Some(SEED),
+        [seed] => seed.parse().ok(),
+        _ => None,
+    }
+}

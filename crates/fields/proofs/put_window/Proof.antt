@@ -1,0 +1,58 @@
+-- `put_window` meets its contract: v is inserted in the number that the eight bytes write, and the bytes of that are stored.
+use Prim.Native.Nat.{_-_, _*_}
+use native.Mathlib.Omega.{arith}
+use lib.ListN.{length}
+use Rattle.fields.proofs.Windows.{put-law}
+use borrow.Author.Needs.{needs}
+use Rattle.fields.proofs.put_window.Statement.{statement}
+use Rattle.fields.proofs.put_window.Tie as tie
+
+load-requires : tie.Need-load-requires
+load-requires c κs = search needs
+
+mul-insert : tie.Need-mul-insert
+mul-insert c = search needs
+
+sub-insert : tie.Need-sub-insert
+sub-insert c = search needs
+
+sub-insert-2 : tie.Need-sub-insert-2
+sub-insert-2 c = search needs
+
+sub-insert-3 : tie.Need-sub-insert-3
+sub-insert-3 c = search needs
+
+insert-requires : tie.Need-insert-requires
+insert-requires c κs = search needs
+
+store-requires : tie.Need-store-requires
+store-requires c κs = search needs
+
+same-length : tie.Need-same-length
+same-length c = search needs
+
+returns : tie.Need-returns
+returns c =
+    let at-store = c .before .before in
+    let at-insert = at-store .before .before in
+    let at-load = at-insert .before in
+    let at-known = at-load .before .before in
+    let start = at-known .before in
+    let a = start .args in
+    put-law (a .s .now) _ (a .at) (a .w) (a .v) (a .first) 8 (64 - (a .at - a .first * 8) - a .w) (at-load .load .result) (at-insert .insert .result)
+    (λ k. at-known .slice-known .given k .fits) (omega arith) (omega arith) (omega arith) (start .pre .1 .1 .1 .1 .1)
+    (at-load .load .ensures) (at-insert .insert .ensures) (at-store .store .ensures)
+
+pub put-window-spec : {M : Type 1} → statement M
+put-window-spec =
+    tie.close
+    (tie.spec
+    load-requires
+    mul-insert
+    sub-insert
+    sub-insert-2
+    sub-insert-3
+    insert-requires
+    store-requires
+    same-length
+    returns)

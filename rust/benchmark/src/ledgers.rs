@@ -1,0 +1,166 @@
+//! The ledgers that calls are measured on: 63 open contracts of every fuel, kind and class, with as
+//! many rows as asked for. The twin builds them, and the proved calls must leave the same bytes.
+
+use crate::calls::{proved, proved_bill, Answer};
+
+/// A territory in which every kind of contract may be opened.
+pub const NORTHERN_IRELAND: u32 = 1;
+
+/// The contract with a quarter of the rows: fixed, electricity, without a certificate.
+pub const LARGE_CONTRACT: u32 = 0;
+
+/// A contract whose rows are in the middle.
+pub const MIDDLE_CONTRACT: u32 = 29;
+
+/// The one contract that isn't open.
+pub const CLOSED_CONTRACT: u32 = 63;
+
+/// The day of each contract's first row, and of its certificate. Each row takes one day.
+pub const FIRST_DAY: u32 = 511;
+
+/// The scheme's last day, which no row takes.
+pub const FREE_DAY: u32 = 851;
+
+/// How many days apart the rows of a contract are, unless it is the one with a quarter of them.
+const DAYS_APART: u32 = 25;
+
+/// Document 01's code of fixed contracts.
+const FIXED: u32 = 0;
+
+/// Document 01's code of flexible contracts.
+const FLEXIBLE: u32 = 2;
+
+/// Document 01's code of index contracts.
+const INDEX: u32 = 3;
+
+/// A book in which every price is published.
+pub fn book() -> Vec<u32> {
+    (0..1_740).map(reference_price).collect()
+}
+
+/// A ledger with that many rows.
+pub fn ledger(rows: usize, book: &[u32]) -> Vec<u8> {
+    let mut ledgers = Ledgers::start();
+    for contract in 0..CLOSED_CONTRACT {
+        ledgers.open(contract);
+    }
+    let rows = rows as u32;
+    let large = rows / 4;
+    for row in 0..large {
+        ledgers.bill(book, bill_numbers(LARGE_CONTRACT, FIRST_DAY + row));
+    }
+    let small_contracts = CLOSED_CONTRACT - 1;
+    for row in 0..rows - large {
+        let contract = 1 + row % small_contracts;
+        let day = FIRST_DAY + row / small_contracts * DAYS_APART;
+        ledgers.bill(book, bill_numbers(contract, day));
+    }
+    ledgers.twin
+}
+
+/// The numbers of a contract's bill for one day.
+pub fn bill_numbers(contract: u32, day: u32) -> twin::BillNumbers {
+    let place = 1_024 * contract + day;
+    twin::BillNumbers {
+        contract,
+        first: day,
+        last: day,
+        kwh: varied(place, 0, 100_000_000),
+        supply: varied(place, 9_000, 60_000),
+        wap: match kind(contract) {
+            FLEXIBLE => reference_price(place),
+            _ => 0,
+        },
+    }
+}
+
+/// A price for a place in the book or ledger, from below the lowest support price to above the
+/// highest.
+fn reference_price(place: u32) -> u32 {
+    varied(place, 9_000, 30_000)
+}
+
+/// A number for a place in the book or ledger, from `least` on and below `least + range`.
+fn varied(place: u32, least: u32, range: u32) -> u32 {
+    least + place.wrapping_mul(2_654_435_769) % range
+}
+
+/// The kind of a contract; each kind comes every fourth contract.
+fn kind(contract: u32) -> u32 {
+    contract % 4
+}
+
+/// The fuel of a contract; an index contract is of electricity.
+fn fuel(contract: u32) -> u32 {
+    match kind(contract) {
+        INDEX => 0,
+        _ => contract / 4 % 2,
+    }
+}
+
+/// The class and effective day of a contract; each class comes every third contract.
+fn certificate(contract: u32) -> (u32, u32) {
+    match contract % 3 {
+        0 => (0, 0),
+        class => (class, FIRST_DAY),
+    }
+}
+
+/// A ledger that the proved calls make, and the one that the twin makes.
+struct Ledgers {
+    proved: Vec<u8>,
+    twin: Vec<u8>,
+}
+
+impl Ledgers {
+    fn start() -> Ledgers {
+        let bytes = vec![0; ebds::LEDGER_LENGTH];
+        let mut ledgers = Ledgers {
+            proved: bytes.clone(),
+            twin: bytes,
+        };
+        ledgers.call(
+            |ledger| proved(ebds::calls::start(ledger, NORTHERN_IRELAND)),
+            |ledger| twin::start(ledger, NORTHERN_IRELAND),
+        );
+        ledgers
+    }
+
+    /// Opens a contract, with its certificate.
+    fn open(&mut self, contract: u32) {
+        let (fuel, kind) = (fuel(contract), kind(contract));
+        // A fixed contract's price-fix day and day of entry.
+        let days = match kind {
+            FIXED => 14 * contract,
+            _ => 0,
+        };
+        self.call(
+            |ledger| proved(ebds::calls::open(ledger, contract, fuel, kind, days, days)),
+            |ledger| twin::open(ledger, contract, fuel, kind, days, days),
+        );
+        let (class, day) = certificate(contract);
+        self.call(
+            |ledger| proved(ebds::calls::cert(ledger, contract, class, day)),
+            |ledger| twin::cert(ledger, contract, class, day),
+        );
+    }
+
+    fn bill(&mut self, book: &[u32], numbers: twin::BillNumbers) {
+        self.call(
+            |ledger| proved_bill(ledger, book, numbers),
+            |ledger| twin::bill(ledger, book, numbers),
+        );
+    }
+
+    /// Makes a call on both, which must be accepted and leave the same.
+    fn call(
+        &mut self,
+        proved: impl FnOnce(&mut [u8]) -> Answer,
+        twin: impl FnOnce(&mut [u8]) -> Answer,
+    ) {
+        let answer = twin(&mut self.twin);
+        assert!(answer.is_ok(), "the call is accepted: {answer:?}");
+        assert_eq!(proved(&mut self.proved), answer, "the same answer");
+        assert!(self.proved == self.twin, "the same bytes");
+    }
+}

@@ -1,0 +1,298 @@
+//! Ledgers that break one clause of document 01's paragraph "Well formed" each, beside
+//! neighbours that keep it.
+
+mod common;
+
+use calculator::layout::{ContractNumbers, LedgerNumbers, RowNumbers, LEDGER_BYTES};
+use calculator::packed::{call_on_bytes, unpack};
+use common::{call, paper_run};
+
+/// A well-formed ledger: in Northern Ireland, contract 0 flexible electricity with an ETII
+/// certificate, contract 1 fixed gas, contract 2 index; rows 0 and 1 of contract 0, row 2 of
+/// contract 1; one claim.
+fn ledger() -> LedgerNumbers {
+    let mut bytes = vec![0; LEDGER_BYTES];
+    let book = [11_000; 1_740];
+    for line in [
+        "start 1",
+        "open 0 0 2 0 0",
+        "cert 0 1 486",
+        "open 1 1 0 700 851",
+        "open 2 0 3 0 0",
+        "bill 0 486 515 1000 67030 31980",
+        "bill 0 516 546 1000 67030 31980",
+        "bill 1 486 515 1000 67030 0",
+        "claim",
+    ] {
+        let outcome = call_on_bytes(&mut bytes, &book, &call(line));
+        assert!(outcome.is_ok(), "{line}: {outcome:?}");
+    }
+    LedgerNumbers::read(&bytes)
+}
+
+fn is_well_formed(edit: impl Fn(&mut LedgerNumbers)) -> bool {
+    let mut numbers = ledger();
+    edit(&mut numbers);
+    unpack(&numbers.write()).is_some()
+}
+
+/// Whether the ledger is well formed with contract 0 without rows and edited.
+fn contract_is_well_formed(edit: impl Fn(&mut ContractNumbers)) -> bool {
+    is_well_formed(|ledger| {
+        ledger.rows[0] = ledger.rows[2];
+        ledger.rows[1..3].fill(RowNumbers::default());
+        edit(&mut ledger.contracts[0]);
+    })
+}
+
+/// Whether the ledger is well formed with the first row, of 0 kWh and amount, edited.
+fn row_is_well_formed(edit: impl Fn(&mut RowNumbers)) -> bool {
+    is_well_formed(|ledger| {
+        let row = &mut ledger.rows[0];
+        (row.kwh, row.amount) = (0, 0);
+        edit(row);
+    })
+}
+
+#[test]
+fn the_ledger_without_edits_is_well_formed() {
+    assert!(is_well_formed(|_| {}));
+    assert!(contract_is_well_formed(|_| {}));
+    assert!(row_is_well_formed(|_| {}));
+}
+
+#[test]
+fn every_ledger_of_the_papers_run_is_well_formed() {
+    let mut bytes = vec![0; LEDGER_BYTES];
+    for (line, outcome) in paper_run() {
+        let answered = call_on_bytes(&mut bytes, &[0; 1_740], &call(line));
+        assert_eq!(answered, outcome, "{line}");
+        assert!(unpack(&bytes).is_some(), "after {line}");
+    }
+}
+
+#[test]
+fn that_length() {
+    let bytes = ledger().write();
+    assert!(unpack(&bytes[..LEDGER_BYTES - 1]).is_none());
+    assert!(unpack(&[&bytes[..], &[0]].concat()).is_none());
+    assert!(unpack(&[]).is_none());
+}
+
+#[test]
+fn claims_at_most_1_000() {
+    assert!(is_well_formed(|ledger| ledger.claims = 1_000));
+    assert!(!is_well_formed(|ledger| ledger.claims = 1_001));
+    assert!(!is_well_formed(|ledger| ledger.claims = 65_535));
+}
+
+#[test]
+fn no_pence_where_no_claim_was_made() {
+    let set = |ledger: &mut LedgerNumbers, claims, pence| {
+        (ledger.claims, ledger.pence) = (claims, pence);
+    };
+    assert!(is_well_formed(|ledger| set(ledger, 0, 0)));
+    assert!(is_well_formed(|ledger| set(ledger, 1, (1 << 47) - 1)));
+    assert!(!is_well_formed(|ledger| set(ledger, 0, 1)));
+}
+
+#[test]
+fn a_contract_not_open_is_all_zeros() {
+    let edits: [fn(&mut ContractNumbers); 6] = [
+        |contract| contract.fuel = 1,
+        |contract| contract.kind = 2,
+        |contract| contract.price_fix_day = 1,
+        |contract| contract.entry_day = 1,
+        |contract| contract.class = 1,
+        |contract| contract.effective_day = 486,
+    ];
+    for edit in edits {
+        assert!(!is_well_formed(|ledger| edit(&mut ledger.contracts[63])));
+    }
+}
+
+#[test]
+fn a_row_not_held_is_all_zeros() {
+    let edits: [fn(&mut RowNumbers); 7] = [
+        |row| row.contract = 1,
+        |row| row.first_day = 1,
+        |row| row.last_day = 1,
+        |row| row.kwh = 1,
+        |row| row.reference_price = 1,
+        |row| row.supply_price = 1,
+        |row| row.amount = 1,
+    ];
+    for edit in edits {
+        assert!(!is_well_formed(|ledger| edit(&mut ledger.rows[1_023])));
+    }
+}
+
+#[test]
+fn the_four_last_bits_of_any_contract_are_zeros() {
+    for contract in [0, 1, 2, 63] {
+        for zeros in [1, 2, 4, 8, 15] {
+            assert!(!is_well_formed(
+                |ledger| ledger.contracts[contract].zeros = zeros
+            ));
+        }
+    }
+}
+
+#[test]
+fn every_open_contract_has_codes_with_a_meaning_in_their_place() {
+    assert!(!contract_is_well_formed(|contract| contract.class = 3));
+    assert!(contract_is_well_formed(|contract| contract.kind = 3));
+    assert!(!contract_is_well_formed(|contract| {
+        (contract.kind, contract.fuel) = (3, 1);
+    }));
+    assert!(!is_well_formed(|ledger| ledger.territory = 0));
+    assert!(is_well_formed(|ledger| {
+        ledger.territory = 0;
+        ledger.contracts[2] = ContractNumbers::default();
+    }));
+}
+
+#[test]
+fn every_open_contract_has_days_in_range() {
+    for (kind, day, well_formed) in [
+        (0, 851, true),
+        (0, 852, false),
+        (1, 1, false),
+        (2, 1, false),
+        (3, 1, false),
+    ] {
+        let price_fix = |contract: &mut ContractNumbers| {
+            (contract.kind, contract.price_fix_day) = (kind, day);
+        };
+        assert_eq!(contract_is_well_formed(price_fix), well_formed);
+        let entry = |contract: &mut ContractNumbers| {
+            (contract.kind, contract.entry_day) = (kind, day);
+        };
+        assert_eq!(contract_is_well_formed(entry), well_formed);
+    }
+}
+
+#[test]
+fn every_certificate_has_an_effective_day_in_range() {
+    for (class, effective_day, well_formed) in [
+        (0, 0, true),
+        (0, 486, false),
+        (1, 485, false),
+        (1, 486, true),
+        (1, 851, true),
+        (1, 852, false),
+        (2, 510, false),
+        (2, 511, true),
+        (2, 851, true),
+        (2, 852, false),
+    ] {
+        let edit = |contract: &mut ContractNumbers| {
+            (contract.class, contract.effective_day) = (class, effective_day);
+        };
+        assert_eq!(contract_is_well_formed(edit), well_formed, "{class}");
+    }
+}
+
+#[test]
+fn every_held_row_has_days_in_range() {
+    for (first_day, last_day, well_formed) in [
+        (486, 486, true),
+        (485, 486, false),
+        (500, 499, false),
+        (500, 500, true),
+    ] {
+        let edit = |row: &mut RowNumbers| (row.first_day, row.last_day) = (first_day, last_day);
+        assert_eq!(row_is_well_formed(edit), well_formed, "{first_day}");
+    }
+    let last_row_ends = |day| is_well_formed(|ledger| ledger.rows[2].last_day = day);
+    assert!(last_row_ends(851));
+    assert!(!last_row_ends(852));
+}
+
+#[test]
+fn every_held_row_has_kwh_and_prices_in_range() {
+    // at S 0 the rate is 0, whatever kWh and R are
+    let edited = |kwh, reference_price| {
+        row_is_well_formed(|row| {
+            (row.kwh, row.reference_price, row.supply_price) = (kwh, reference_price, 0);
+        })
+    };
+    assert!(edited(100_000_000, 999_999));
+    assert!(!edited(100_000_001, 999_999));
+    assert!(!edited(100_000_000, 1_000_000));
+    assert!(row_is_well_formed(|row| row.supply_price = 999_999));
+    assert!(!row_is_well_formed(|row| row.supply_price = 1_000_000));
+}
+
+#[test]
+fn the_contract_of_a_held_row_is_open() {
+    assert!(!is_well_formed(|ledger| ledger.rows[2].contract = 3));
+    assert!(!is_well_formed(
+        |ledger| ledger.contracts[1] = ContractNumbers::default()
+    ));
+}
+
+#[test]
+fn a_reference_price_of_0_is_for_flexible_only() {
+    assert!(row_is_well_formed(|row| row.reference_price = 0));
+    let without_price = |reference_price| {
+        is_well_formed(|ledger| {
+            let row = &mut ledger.rows[2];
+            (row.kwh, row.amount, row.reference_price) = (0, 0, reference_price);
+        })
+    };
+    assert!(without_price(1));
+    assert!(!without_price(0));
+}
+
+#[test]
+fn the_amount_is_kwh_times_rate() {
+    assert!(!is_well_formed(|ledger| ledger.rows[0].amount += 1));
+    assert!(!is_well_formed(|ledger| ledger.rows[2].amount -= 1));
+    assert!(!is_well_formed(|ledger| ledger.rows[0].kwh += 1));
+    assert!(is_well_formed(|ledger| {
+        ledger.rows[0].kwh = 901;
+        ledger.rows[0].amount = 901 * 67_640;
+    }));
+    let certificate_starts = |day| is_well_formed(|ledger| ledger.contracts[0].effective_day = day);
+    assert!(certificate_starts(486));
+    assert!(!certificate_starts(487));
+}
+
+#[test]
+fn held_rows_come_first() {
+    assert!(!is_well_formed(|ledger| ledger.rows.swap(2, 3)));
+    assert!(!is_well_formed(|ledger| ledger.rows.swap(0, 1_023)));
+    assert!(!is_well_formed(
+        |ledger| ledger.rows[1] = RowNumbers::default()
+    ));
+}
+
+#[test]
+fn held_rows_ascend_by_contract_then_first_day() {
+    assert!(!is_well_formed(|ledger| ledger.rows.swap(0, 1)));
+    assert!(!is_well_formed(|ledger| ledger.rows.swap(1, 2)));
+}
+
+#[test]
+fn no_two_rows_of_a_contract_share_a_day() {
+    assert!(!is_well_formed(|ledger| ledger.rows[0].last_day = 516));
+    assert!(!is_well_formed(|ledger| ledger.rows[1].first_day = 515));
+    assert!(!is_well_formed(|ledger| ledger.rows[1] = ledger.rows[0]));
+    assert!(is_well_formed(|ledger| ledger.rows[2].first_day = 487));
+}
+
+#[test]
+fn no_row_far_below_shares_a_day_either() {
+    let last_of_first_row = |day| {
+        is_well_formed(|ledger| {
+            let other = ledger.rows[2];
+            ledger.rows[2] = ledger.rows[1];
+            (ledger.rows[2].first_day, ledger.rows[2].last_day) = (600, 600);
+            ledger.rows[3] = other;
+            ledger.rows[0].last_day = day;
+        })
+    };
+    assert!(last_of_first_row(515));
+    assert!(!last_of_first_row(600));
+}

@@ -1,0 +1,143 @@
+//! The packed ledger: its layout, both round trips, and the calls on its bytes.
+
+mod common;
+
+use calculator::codes::Territory;
+use calculator::packed::{call_on_bytes, pack, unpack, Facts, LEDGER_BYTES};
+use calculator::postings::PostingModule;
+use common::{call, paper_run};
+
+const NO_PRICES: [u32; 1_740] = [0; 1_740];
+
+/// The facts that the accepted lines leave.
+fn facts_after(lines: &[&str]) -> Facts {
+    let mut module = PostingModule::new(Territory::GreatBritain);
+    for line in lines {
+        let outcome = module.call(&NO_PRICES, &call(line));
+        assert!(outcome.is_ok(), "{line}: {outcome:?}");
+    }
+    module.facts()
+}
+
+/// The ledger that the accepted lines leave.
+fn ledger_after(lines: &[&str]) -> Vec<u8> {
+    pack(&facts_after(lines))
+}
+
+/// The bytes of bits written as 0 and 1.
+fn bytes_of(bits: &str) -> Vec<u8> {
+    let byte = |start| u8::from_str_radix(&bits[start..start + 8], 2).expect("eight bits");
+    (0..bits.len()).step_by(8).map(byte).collect()
+}
+
+#[test]
+fn a_fresh_ledger_is_zeros_but_for_the_territory_bit() {
+    let great_britain = pack(&Facts::fresh(Territory::GreatBritain));
+    assert_eq!(great_britain, vec![0; LEDGER_BYTES]);
+    let northern_ireland = pack(&Facts::fresh(Territory::NorthernIreland));
+    assert_eq!(northern_ireland[0], 0b1000_0000);
+    assert_eq!(northern_ireland[1..], great_britain[1..]);
+}
+
+#[test]
+fn the_fields_stand_in_the_papers_order() {
+    let ledger = ledger_after(&[
+        "start 1",
+        "open 2 1 0 700 851",
+        "cert 2 1 600",
+        "open 63 0 2 0 0",
+        "bill 63 486 515 1000 67030 31980",
+        "claim",
+        "claim",
+    ]);
+    let header = bytes_of(&format!("1{:016b}{:047b}", 2, 1_780));
+    assert_eq!(ledger[..8], header);
+    let fixed = format!("1100{:010b}{:010b}01{:010b}0000", 700, 851, 600);
+    assert_eq!(ledger[8 + 2 * 5..8 + 3 * 5], bytes_of(&fixed));
+    let flexible = format!("1010{:036b}", 0);
+    assert_eq!(ledger[8 + 63 * 5..8 + 64 * 5], bytes_of(&flexible));
+    let days = format!("1{:06b}{:010b}{:010b}", 63, 486, 515);
+    let prices = format!("{:027b}{:020b}{:020b}", 1_000, 31_980, 67_030);
+    let row = bytes_of(&format!("{days}{prices}{:050b}", 17_800_000));
+    assert_eq!(ledger[328..328 + 18], row);
+    let other_bytes = [&ledger[8..18], &ledger[23..323], &ledger[346..]].concat();
+    assert!(other_bytes.iter().all(|&byte| byte == 0));
+}
+
+/// 1,024 rows of the highest amounts under 64 contracts, added in descending order.
+fn full_ledger() -> Facts {
+    let mut lines = Vec::new();
+    for contract in (0..64).rev() {
+        lines.push(format!("open {contract} 1 2 0 0"));
+        lines.push(format!("cert {contract} 2 511"));
+        let bill = |day| format!("bill {contract} {day} {day} 100000000 999999 999999");
+        lines.extend((792..808).rev().map(bill));
+    }
+    let lines: Vec<&str> = lines.iter().map(String::as_str).collect();
+    facts_after(&lines)
+}
+
+#[test]
+fn unpacking_then_packing_gives_the_bytes() {
+    let ledgers = [
+        ledger_after(&[]),
+        ledger_after(&["start 1", "open 0 0 3 0 0", "claim"]),
+        pack(&full_ledger()),
+    ];
+    for ledger in ledgers {
+        let facts = unpack(&ledger).expect("the ledger is well formed");
+        assert_eq!(pack(&facts), ledger);
+    }
+}
+
+#[test]
+fn packing_then_unpacking_gives_the_facts() {
+    let mut facts = full_ledger();
+    assert_eq!(facts.rows.len(), 1_024);
+    facts.claims = 1_000;
+    facts.pence = (1 << 47) - 1;
+    assert_eq!(unpack(&pack(&facts)), Some(facts));
+}
+
+#[test]
+fn the_papers_run_leaves_its_claims_and_no_row() {
+    let mut ledger = vec![0; LEDGER_BYTES];
+    for (line, outcome) in paper_run() {
+        let answered = call_on_bytes(&mut ledger, &NO_PRICES, &call(line));
+        assert_eq!(answered, outcome, "{line}");
+    }
+    let facts = unpack(&ledger).expect("the ledger is well formed");
+    assert_eq!((facts.claims, facts.pence, facts.rows), (3, 6_094, vec![]));
+}
+
+#[test]
+fn a_refused_call_changes_no_byte() {
+    let before = ledger_after(&["open 0 0 2 0 0", "bill 0 486 515 1000 67030 31980"]);
+    let mut ledger = before.clone();
+    for (line, number) in [("start 2", 6), ("bill 0 515 515 1 1 1", 10)] {
+        let answered = call_on_bytes(&mut ledger, &NO_PRICES, &call(line));
+        assert_eq!(answered, Err(number), "{line}");
+        assert_eq!(ledger, before, "{line}");
+    }
+}
+
+#[test]
+fn a_ledger_of_a_wrong_length_is_refused_before_all_else() {
+    for length in [0, 1, 18_759, 18_761] {
+        let mut ledger = vec![0; length];
+        for line in ["start 2", "bill 64 0 0 0 0 0", "total"] {
+            let answered = call_on_bytes(&mut ledger, &[], &call(line));
+            assert_eq!(answered, Err(2), "{line} on {length} bytes");
+        }
+    }
+}
+
+#[test]
+fn start_takes_a_buffer_of_any_contents() {
+    let mut ledger = vec![0xFF; LEDGER_BYTES];
+    let answered = call_on_bytes(&mut ledger, &[], &call("total"));
+    assert_eq!(answered, Err(2));
+    let answered = call_on_bytes(&mut ledger, &[], &call("start 0"));
+    assert_eq!(answered, Ok(vec![]));
+    assert_eq!(ledger, vec![0; LEDGER_BYTES]);
+}

@@ -1,0 +1,213 @@
+//! What the comparisons met: sessions, calls, refusals, damaged ledgers and differences.
+
+use crate::rows_met::RowsMet;
+use calculator::calls::Outcome;
+use calculator::refusals::LAST_REFUSAL;
+use std::collections::BTreeMap;
+use std::fmt::Display;
+
+/// How often each refusal, each accepted call and each sort of row must be met.
+const FEWEST_MET: u64 = 100;
+
+/// The differences that are printed in full.
+const DIFFERENCES_PRINTED: u64 = 3;
+
+/// How many damaged ledgers of each kind there must be.
+const FEWEST_DAMAGED: u64 = 20;
+
+/// What was compared with the calculator on one side, the program or the library.
+pub struct Counts {
+    side: &'static str,
+    /// The refusals that the side can meet, each of which must be.
+    possible_refusals: Vec<u32>,
+    /// The calls that the side can accept, each of which must be.
+    possible_calls: Vec<&'static str>,
+    /// Sessions or histories, by their kind.
+    runs: BTreeMap<&'static str, u64>,
+    accepted: BTreeMap<String, u64>,
+    refused: BTreeMap<u32, u64>,
+}
+
+/// The damaged ledgers of one kind.
+#[derive(Default)]
+pub struct DamageCounts {
+    pub tried: u64,
+    pub still_well_formed: u64,
+}
+
+/// All that was met.
+pub struct Findings {
+    pub program: Counts,
+    pub library: Counts,
+    /// The rows at the ends of the library's histories.
+    pub rows: RowsMet,
+    damages: BTreeMap<&'static str, DamageCounts>,
+    differences: u64,
+}
+
+impl Counts {
+    fn new(
+        side: &'static str,
+        possible_refusals: Vec<u32>,
+        possible_calls: Vec<&'static str>,
+    ) -> Counts {
+        Counts {
+            side,
+            possible_refusals,
+            possible_calls,
+            runs: BTreeMap::new(),
+            accepted: BTreeMap::new(),
+            refused: BTreeMap::new(),
+        }
+    }
+
+    /// Counts a run of the kind.
+    pub fn count_run(&mut self, kind: &'static str) {
+        *self.runs.entry(kind).or_default() += 1;
+    }
+
+    /// Counts an accepted call or the refusal of one.
+    pub fn count_outcome(&mut self, name: &str, outcome: &Outcome) {
+        match outcome {
+            Ok(_) => *self.accepted.entry(name.to_string()).or_default() += 1,
+            Err(number) => *self.refused.entry(*number).or_default() += 1,
+        }
+    }
+
+    fn print(&self) {
+        let outcomes: u64 = self.accepted.values().chain(self.refused.values()).sum();
+        println!("{}: {outcomes} calls", self.side);
+        println!("  runs: {}", listed(self.runs.clone()));
+        println!("  accepted: {}", listed(self.accepted.clone()));
+        println!("  refused by number: {}", listed(self.refused.clone()));
+    }
+
+    /// Each refusal and accepted call that must be met, and how often it was.
+    fn required(&self) -> Vec<(String, u64)> {
+        let times = |count: Option<&u64>| count.copied().unwrap_or_default();
+        let refusals = self.possible_refusals.iter().map(|number| {
+            let what = format!("{}: refusal {number}", self.side);
+            (what, times(self.refused.get(number)))
+        });
+        let calls = self.possible_calls.iter().map(|name| {
+            let what = format!("{}: accepted {name}", self.side);
+            (what, times(self.accepted.get(*name)))
+        });
+        refusals.chain(calls).collect()
+    }
+}
+
+impl Findings {
+    pub fn new() -> Findings {
+        let library_calls = vec![
+            "start", "open", "bill", "rebill", "cert", "cancel", "claim", "report", "total", "day",
+            "date",
+        ];
+        let program_calls = [library_calls.clone(), vec!["price"]].concat();
+        // the program's own ledger and book never meet numbers 2 and 3
+        let program_refusals = [1].into_iter().chain(4..=LAST_REFUSAL).collect();
+        let library_refusals = (2..=LAST_REFUSAL).collect();
+        Findings {
+            program: Counts::new("program", program_refusals, program_calls),
+            library: Counts::new("library and twin", library_refusals, library_calls),
+            rows: RowsMet::default(),
+            damages: BTreeMap::new(),
+            differences: 0,
+        }
+    }
+
+    /// Counts damaged ledgers of a kind.
+    pub fn count_damage(&mut self, kind: &'static str, counts: &DamageCounts) {
+        let all = self.damages.entry(kind).or_default();
+        all.tried += counts.tried;
+        all.still_well_formed += counts.still_well_formed;
+    }
+
+    /// Counts a difference and prints the first few.
+    pub fn count_difference(&mut self, description: impl FnOnce() -> String) {
+        self.differences += 1;
+        if self.differences <= DIFFERENCES_PRINTED {
+            println!("difference: {}", description());
+        }
+    }
+
+    /// Prints everything, in the last line the differences.
+    pub fn print(&self) {
+        self.program.print();
+        self.library.print();
+        println!("  rows held at the end: {}", listed(self.rows.required()));
+        println!("damaged ledgers:");
+        for (kind, counts) in &self.damages {
+            let DamageCounts {
+                tried,
+                still_well_formed,
+            } = counts;
+            println!("  {kind}: {tried}, of which still well formed {still_well_formed}");
+        }
+        for (what, times) in self.met_too_few_times() {
+            println!("too few: {what}, {times} times");
+        }
+        println!("comparisons: {} differences", self.differences);
+    }
+
+    /// Whether there is no difference and everything was met often enough.
+    pub fn passed(&self) -> bool {
+        self.differences == 0 && self.met_too_few_times().is_empty()
+    }
+
+    /// What must be met and was met too few times, and how often it was.
+    fn met_too_few_times(&self) -> Vec<(String, u64)> {
+        let calls = [&self.program, &self.library].map(Counts::required);
+        let met = calls.concat().into_iter().chain(self.rows.required());
+        let met_too_few_times = met.filter(|&(_, times)| times < FEWEST_MET);
+        let damages = self.damages.iter();
+        let damages = damages.map(|(kind, counts)| (kind.to_string(), counts.tried));
+        let damaged_too_few_times = damages.filter(|&(_, times)| times < FEWEST_DAMAGED);
+        met_too_few_times.chain(damaged_too_few_times).collect()
+    }
+}
+
+/// The counts in one line.
+fn listed<Name: Display>(counts: impl IntoIterator<Item = (Name, u64)>) -> String {
+    let items = counts.into_iter();
+    let items: Vec<String> = items
+        .map(|(name, count)| format!("{name}: {count}"))
+        .collect();
+    items.join(", ")
+}
+
+#[cfg(test)]
+mod tests {
+    use super::{Findings, FEWEST_MET};
+
+    /// Everything that must be met, met often enough.
+    fn sufficient_findings() -> Findings {
+        let mut findings = Findings::new();
+        for side in [&mut findings.program, &mut findings.library] {
+            let (refusals, calls) = (side.possible_refusals.clone(), side.possible_calls.clone());
+            for _ in 0..FEWEST_MET {
+                refusals
+                    .iter()
+                    .for_each(|&number| side.count_outcome("", &Err(number)));
+                calls
+                    .iter()
+                    .for_each(|name| side.count_outcome(name, &Ok(vec![])));
+            }
+        }
+        findings
+    }
+
+    #[test]
+    fn nothing_met_is_too_few() {
+        assert!(!Findings::new().passed());
+    }
+
+    #[test]
+    fn a_difference_fails() {
+        let mut findings = sufficient_findings();
+        let rows = findings.rows.required().len();
+        assert_eq!(findings.met_too_few_times().len(), rows);
+        findings.count_difference(|| "a difference of this test".to_string());
+        assert!(!findings.passed());
+    }
+}

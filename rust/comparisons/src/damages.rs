@@ -1,0 +1,343 @@
+//! The kinds of damage that are done to a ledger.
+
+use crate::random::Random;
+use calculator::facts::{CONTRACTS, MOST_ROWS};
+use calculator::layout::{ContractNumbers, LedgerNumbers, RowNumbers, LEDGER_BYTES};
+
+/// A kind of damage: its ledgers are numbered from 0.
+pub struct Damage {
+    pub kind: &'static str,
+    pub count: usize,
+    pub damaged: Damaged,
+}
+
+/// The damaged ledger of a number; it is undamaged where the ledger has no place for the
+/// damage.
+type Damaged = fn(&mut Random, &[u8], usize) -> Vec<u8>;
+
+/// The widths of the fields in document 01's order (section "The packed ledger, 18,760
+/// bytes").
+const HEADER_WIDTHS: [usize; 3] = [1, 16, 47];
+const CONTRACT_WIDTHS: [usize; 8] = [1, 1, 2, 10, 10, 2, 10, 4];
+const ROW_WIDTHS: [usize; 8] = [1, 6, 10, 10, 27, 20, 20, 50];
+
+/// Where the contracts and the rows begin, in bits, and the bits of each.
+const CONTRACTS_PLACE: usize = 64;
+const CONTRACT_BITS: usize = 40;
+const ROWS_PLACE: usize = CONTRACTS_PLACE + CONTRACTS * CONTRACT_BITS;
+const ROW_BITS: usize = 144;
+
+/// Lengths that aren't a ledger's.
+const WRONG_LENGTHS: [usize; 14] = [
+    0, 1, 7, 8, 9, 327, 328, 329, 346, 18_742, 18_759, 18_761, 18_778, 37_520,
+];
+
+/// The rows that get every value in every field: the first ones, and as many drawn ones.
+const ROWS_PUSHED: usize = 30;
+
+/// The ledgers of a kind that is drawn at random.
+const DRAWN: usize = 60;
+
+/// All kinds of damage.
+pub fn damages() -> Vec<Damage> {
+    let mut damages = numbered_damages();
+    damages.extend(drawn_damages());
+    damages
+}
+
+/// The kinds that go through every place and value.
+fn numbered_damages() -> Vec<Damage> {
+    vec![
+        Damage {
+            kind: "header field at or over its limit",
+            count: pushes(&HEADER_WIDTHS).len(),
+            damaged: header_pushed,
+        },
+        Damage {
+            kind: "contract field at or over its limit",
+            count: CONTRACTS * pushes(&CONTRACT_WIDTHS).len(),
+            damaged: contract_pushed,
+        },
+        Damage {
+            kind: "row field at or over its limit",
+            count: ROWS_PUSHED * pushes(&ROW_WIDTHS).len(),
+            damaged: row_pushed,
+        },
+        Damage {
+            kind: "bit flipped, one in every byte",
+            count: LEDGER_BYTES,
+            damaged: bit_flipped,
+        },
+        Damage {
+            kind: "wrong length",
+            count: WRONG_LENGTHS.len(),
+            damaged: |_, ledger, number| resized(ledger, WRONG_LENGTHS[number]),
+        },
+    ]
+}
+
+/// The kinds whose place is drawn at random.
+fn drawn_damages() -> impl Iterator<Item = Damage> {
+    let kinds: [(_, Damaged); 9] = [
+        ("rows swapped", rows_swapped),
+        ("row repeated", row_repeated),
+        ("rows overlapping", rows_overlapping),
+        ("gap between rows", gap_between_rows),
+        ("unused slot not zero", unused_slot_not_zero),
+        ("padding not zero", padding_not_zero),
+        ("amount off by one", amount_off_by_one),
+        ("contract of a row closed", contract_closed),
+        ("random bytes from a place on", random_bytes_from_a_place_on),
+    ];
+    kinds.into_iter().map(|(kind, damaged)| Damage {
+        kind,
+        count: DRAWN,
+        damaged,
+    })
+}
+
+/// Values at, under and over the limits of a field of this width.
+fn limits(width: usize) -> &'static [u64] {
+    match width {
+        1 => &[0, 1],
+        2 => &[0, 1, 2, 3],
+        4 => &[1, 2, 4, 8, 15],
+        6 => &[0, 1, 31, 62, 63],
+        10 => &[0, 1, 485, 486, 510, 511, 791, 792, 851, 852, 1_023],
+        16 => &[0, 1, 999, 1_000, 1_001, 32_768, 65_535],
+        20 => &[0, 1, 999_999, 1_000_000, 1_048_575],
+        27 => &[0, 1, 100_000_000, 100_000_001, 134_217_727],
+        47 => &[0, 1, 1 << 46, (1 << 47) - 1],
+        50 => &[0, 1, 1 << 49, (1 << 50) - 1],
+        _ => unreachable!("document 01 has no field of {width} bits"),
+    }
+}
+
+/// A field, by its first bit in a record and its width, with a value that it is set to.
+type Push = (usize, usize, u64);
+
+/// Every field of a record with each of its limits.
+fn pushes(widths: &[usize]) -> Vec<Push> {
+    let mut place = 0;
+    let mut pushes = Vec::new();
+    for &width in widths {
+        pushes.extend(limits(width).iter().map(|&value| (place, width, value)));
+        place += width;
+    }
+    pushes
+}
+
+/// The ledger with a field of the record at the place set.
+fn pushed(ledger: &[u8], record_place: usize, (place, width, value): Push) -> Vec<u8> {
+    let mut damaged = ledger.to_vec();
+    for bit in 0..width {
+        let place = record_place + place + bit;
+        let mask = 1 << (7 - place % 8);
+        damaged[place / 8] &= !mask;
+        if value >> (width - 1 - bit) & 1 == 1 {
+            damaged[place / 8] |= mask;
+        }
+    }
+    damaged
+}
+
+fn header_pushed(_: &mut Random, ledger: &[u8], number: usize) -> Vec<u8> {
+    pushed(ledger, 0, pushes(&HEADER_WIDTHS)[number])
+}
+
+fn contract_pushed(_: &mut Random, ledger: &[u8], number: usize) -> Vec<u8> {
+    let pushes = pushes(&CONTRACT_WIDTHS);
+    let contract = number / pushes.len();
+    let place = CONTRACTS_PLACE + contract * CONTRACT_BITS;
+    pushed(ledger, place, pushes[number % pushes.len()])
+}
+
+fn row_pushed(random: &mut Random, ledger: &[u8], number: usize) -> Vec<u8> {
+    let pushes = pushes(&ROW_WIDTHS);
+    let row = match number / pushes.len() {
+        row if row < ROWS_PUSHED / 2 => row,
+        _ => random.below(MOST_ROWS),
+    };
+    let place = ROWS_PLACE + row * ROW_BITS;
+    pushed(ledger, place, pushes[number % pushes.len()])
+}
+
+fn bit_flipped(random: &mut Random, ledger: &[u8], number: usize) -> Vec<u8> {
+    let mut damaged = ledger.to_vec();
+    damaged[number] ^= 1 << random.below(8);
+    damaged
+}
+
+fn resized(ledger: &[u8], length: usize) -> Vec<u8> {
+    let mut damaged = ledger.to_vec();
+    damaged.resize(length, 0);
+    damaged
+}
+
+/// The ledger with its numbers edited; the number of held rows is given to the edit.
+fn edited(ledger: &[u8], edit: impl FnOnce(&mut LedgerNumbers, usize)) -> Vec<u8> {
+    let mut numbers = LedgerNumbers::read(ledger);
+    let held = numbers.rows.iter().filter(|row| row.held).count();
+    edit(&mut numbers, held);
+    numbers.write()
+}
+
+/// Neighbours for even numbers, any two rows for odd ones.
+fn rows_swapped(random: &mut Random, ledger: &[u8], number: usize) -> Vec<u8> {
+    edited(ledger, |numbers, held| {
+        if held > 1 {
+            let row = random.below(held - 1);
+            let other = match number % 2 {
+                0 => row + 1,
+                _ => random.below(held),
+            };
+            numbers.rows.swap(row, other);
+        }
+    })
+}
+
+/// The row is put in once more, or in place of the next one.
+fn row_repeated(random: &mut Random, ledger: &[u8], number: usize) -> Vec<u8> {
+    edited(ledger, |numbers, held| {
+        if held > 1 {
+            let row = random.below(held - 1);
+            let repeated = numbers.rows[row];
+            if number.is_multiple_of(2) {
+                numbers.rows.insert(row, repeated);
+                numbers.rows.truncate(MOST_ROWS);
+            } else {
+                numbers.rows[row + 1] = repeated;
+            }
+        }
+    })
+}
+
+/// A row is made to end on a day of the next row of its contract, or on its last day.
+fn rows_overlapping(random: &mut Random, ledger: &[u8], number: usize) -> Vec<u8> {
+    edited(ledger, |numbers, held| {
+        let neighbours =
+            (1..held).filter(|&row| numbers.rows[row - 1].contract == numbers.rows[row].contract);
+        let neighbours: Vec<usize> = neighbours.collect();
+        if !neighbours.is_empty() {
+            let row = random.one_of(&neighbours);
+            let next = numbers.rows[row];
+            numbers.rows[row - 1].last_day = match number % 2 {
+                0 => next.first_day,
+                _ => next.last_day,
+            };
+        }
+    })
+}
+
+/// A row is taken out, or the rows from it on are moved by one.
+fn gap_between_rows(random: &mut Random, ledger: &[u8], number: usize) -> Vec<u8> {
+    edited(ledger, |numbers, held| {
+        if held > 1 {
+            let row = random.below(held - 1);
+            if number.is_multiple_of(2) {
+                numbers.rows[row] = RowNumbers::default();
+            } else {
+                numbers.rows.insert(row, RowNumbers::default());
+                numbers.rows.truncate(MOST_ROWS);
+            }
+        }
+    })
+}
+
+/// A bit is set in a contract that isn't open, or in a row that isn't held.
+fn unused_slot_not_zero(random: &mut Random, ledger: &[u8], number: usize) -> Vec<u8> {
+    let numbers = LedgerNumbers::read(ledger);
+    let contracts = (0..CONTRACTS).filter(|&slot| !numbers.contracts[slot].open);
+    let contracts = contracts.map(|slot| (CONTRACTS_PLACE + slot * CONTRACT_BITS, CONTRACT_BITS));
+    let rows = (0..MOST_ROWS).filter(|&slot| !numbers.rows[slot].held);
+    let rows = rows.map(|slot| (ROWS_PLACE + slot * ROW_BITS, ROW_BITS));
+    let unused: Vec<(usize, usize)> = match number % 2 {
+        0 => contracts.collect(),
+        _ => rows.collect(),
+    };
+    if unused.is_empty() {
+        return ledger.to_vec();
+    }
+    let (place, bits) = random.one_of(&unused);
+    pushed(ledger, place, (random.below(bits), 1, 1))
+}
+
+fn padding_not_zero(random: &mut Random, ledger: &[u8], _: usize) -> Vec<u8> {
+    edited(ledger, |numbers, _| {
+        numbers.contracts[random.below(CONTRACTS)].zeros = random.within(1..=15);
+    })
+}
+
+fn amount_off_by_one(random: &mut Random, ledger: &[u8], number: usize) -> Vec<u8> {
+    edited(ledger, |numbers, held| {
+        if held > 0 {
+            let amount = &mut numbers.rows[random.below(held)].amount;
+            *amount = match number % 2 {
+                0 => *amount + 1,
+                _ => amount.saturating_sub(1),
+            };
+        }
+    })
+}
+
+/// The contract of a row is closed.
+fn contract_closed(random: &mut Random, ledger: &[u8], _: usize) -> Vec<u8> {
+    edited(ledger, |numbers, held| {
+        if held > 0 {
+            let contract = numbers.rows[random.below(held)].contract;
+            numbers.contracts[contract as usize] = ContractNumbers::default();
+        }
+    })
+}
+
+fn random_bytes_from_a_place_on(random: &mut Random, ledger: &[u8], _: usize) -> Vec<u8> {
+    let mut damaged = ledger.to_vec();
+    let place = random.below(damaged.len());
+    for byte in &mut damaged[place..] {
+        *byte = random.number() as u8;
+    }
+    damaged
+}
+
+#[cfg(test)]
+mod tests {
+    use super::*;
+    use crate::damaged_ledgers::random_facts;
+    use crate::generator::FILLING;
+    use calculator::codes::Territory;
+    use calculator::packed::{pack, unpack};
+
+    #[test]
+    fn the_widths_fill_the_ledger() {
+        assert_eq!(HEADER_WIDTHS.iter().sum::<usize>(), CONTRACTS_PLACE);
+        assert_eq!(CONTRACT_WIDTHS.iter().sum::<usize>(), CONTRACT_BITS);
+        assert_eq!(ROW_WIDTHS.iter().sum::<usize>(), ROW_BITS);
+        assert_eq!(ROWS_PLACE + MOST_ROWS * ROW_BITS, 8 * LEDGER_BYTES);
+    }
+
+    #[test]
+    fn a_field_pushed_is_the_field_read() {
+        let ledger = vec![0xFF; LEDGER_BYTES];
+        let kwh = (1 + 6 + 10 + 10, 27, 100_000_001);
+        let damaged = pushed(&ledger, ROWS_PLACE + 5 * ROW_BITS, kwh);
+        let mut expected = LedgerNumbers::read(&ledger);
+        expected.rows[5].kwh = 100_000_001;
+        assert_eq!(LedgerNumbers::read(&damaged), expected);
+    }
+
+    #[test]
+    fn every_kind_of_damage_gives_ledgers_that_are_not_well_formed() {
+        let mut random = Random::new(1, "damages", 0);
+        let facts = random_facts(&mut random, Territory::GreatBritain, FILLING, 300);
+        let ledger = pack(&facts);
+        assert!(unpack(&ledger).is_some());
+        for damage in damages() {
+            let mut numbers = 0..damage.count;
+            let found = numbers.any(|number| {
+                let damaged = (damage.damaged)(&mut random, &ledger, number);
+                unpack(&damaged).is_none()
+            });
+            assert!(found, "{}", damage.kind);
+        }
+    }
+}

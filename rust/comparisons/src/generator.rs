@@ -1,0 +1,316 @@
+//! Random calls that mean something to a ledger: they bill open contracts on free days,
+//! rebill and cancel rows that are held, and date certificates by them. Some get a number
+//! that is off by one or has nothing to do with the ledger.
+
+use crate::random::Random;
+use calculator::calls::{BillNumbers, Call};
+use calculator::codes::{spans_share_a_day, Territory, HIGHEST_PRICE, MOST_KWH, SCHEME_FIRST_DAY};
+use calculator::dates::LAST_DAY;
+use calculator::facts::CONTRACTS;
+use calculator::packed::{Facts, Row};
+use calculator::rates::Kind;
+
+/// Draws a call on a ledger with these facts.
+type Draw = fn(&mut Random, &Facts) -> Call;
+
+/// The calls that are drawn, by weight.
+pub type Profile = [(usize, Draw)];
+
+/// All calls.
+pub const MIXED: &Profile = &[
+    (12, open),
+    (40, bill),
+    (12, rebill),
+    (12, cert),
+    (6, cancel),
+    (8, claim),
+    (5, report),
+    (4, total),
+    (1, start),
+];
+
+/// Many short bills, which fill the ledger's rows.
+pub const FILLING: &Profile = &[
+    (12, open),
+    (160, short_bill),
+    (4, rebill),
+    (2, cert),
+    (1, cancel),
+    (1, claim),
+    (1, report),
+    (1, total),
+];
+
+/// Many claims, with few bills between them.
+pub const CLAIMING: &Profile = &[
+    (1, open),
+    (4, bill),
+    (1, rebill),
+    (1, cert),
+    (1, cancel),
+    (90, claim),
+    (1, total),
+];
+
+/// First days at the edges of the scheme, of QHS certificates and of the new QHS minimum.
+const BOUNDARY_DAYS: [u32; 6] = [486, 510, 511, 791, 792, 851];
+
+/// Days of fixed contracts at the edges of the table and of the new QHS minimum.
+const BOUNDARY_CONTRACT_DAYS: [u32; 6] = [0, 485, 486, 791, 792, 851];
+
+/// Prices at which a rate begins or reaches its maximum (document 01, section "Prices per
+/// kWh").
+const BOUNDARY_PRICES: [u32; 14] = [
+    1, 6_500, 7_830, 9_900, 10_700, 11_397, 13_900, 18_500, 27_400, 28_240, 30_200, 32_161, 34_000,
+    999_998,
+];
+
+/// Numbers that some field can't have, or only just can.
+const WILD_NUMBERS: [u32; 16] = [
+    0,
+    1,
+    2,
+    3,
+    4,
+    63,
+    64,
+    485,
+    510,
+    852,
+    1_023,
+    1_000_000,
+    100_000_001,
+    134_217_728,
+    2_147_483_648,
+    4_294_967_295,
+];
+
+/// One call in that many has a number that doesn't fit.
+const DISTURBED_ONCE_IN: usize = 10;
+
+/// The days of the longest bill, and of the longest among many.
+const MOST_DAYS: u32 = 40;
+const MOST_DAYS_OF_SHORT_BILL: u32 = 2;
+
+/// A call on a ledger with these facts; mostly open where no contract is.
+pub fn random_call(random: &mut Random, facts: &Facts, profile: &Profile) -> Call {
+    let without_contracts = facts.contracts.iter().all(Option::is_none);
+    let call = if without_contracts && !random.once_in(3) {
+        open(random, facts)
+    } else {
+        random.weighted(profile)(random, facts)
+    };
+    if random.once_in(DISTURBED_ONCE_IN) {
+        disturbed(random, &call)
+    } else {
+        call
+    }
+}
+
+/// A start of either territory.
+pub fn start(random: &mut Random, _: &Facts) -> Call {
+    Call::Start {
+        territory: random.within(0..=1),
+    }
+}
+
+/// A price in mils, 0 to 999,999.
+pub fn random_price(random: &mut Random) -> u32 {
+    match random.below(8) {
+        0..4 => random.one_of(&BOUNDARY_PRICES) + random.within(0..=2) - 1,
+        4..7 => random.within(0..=80_000),
+        _ => random.within(0..=HIGHEST_PRICE),
+    }
+}
+
+/// The call with one of its numbers off by one or wild.
+fn disturbed(random: &mut Random, call: &Call) -> Call {
+    let mut numbers = call.numbers();
+    if !numbers.is_empty() {
+        let place = random.below(numbers.len());
+        numbers[place] = match random.below(4) {
+            0 => numbers[place].wrapping_add(1),
+            1 => numbers[place].wrapping_sub(1),
+            2 => random.one_of(&WILD_NUMBERS),
+            _ => random.number() as u32,
+        };
+    }
+    Call::of(call.name(), &numbers).expect("the name and the count of numbers are a call's")
+}
+
+fn open(random: &mut Random, facts: &Facts) -> Call {
+    let fuel = random.within(0..=1);
+    let index_in_place = fuel == 0 && facts.territory == Territory::NorthernIreland;
+    let kinds = if index_in_place {
+        &[0, 1, 2, 3, 3][..]
+    } else {
+        &[0, 1, 2, 2]
+    };
+    let kind = random.one_of(kinds);
+    let day = |random: &mut Random| if kind == 0 { contract_day(random) } else { 0 };
+    Call::Open {
+        contract: number_of(random, &contract_numbers(facts, false)),
+        fuel,
+        kind,
+        price_fix_day: day(random),
+        entry_day: day(random),
+    }
+}
+
+fn bill(random: &mut Random, facts: &Facts) -> Call {
+    bill_of_days(random, facts, MOST_DAYS)
+}
+
+fn short_bill(random: &mut Random, facts: &Facts) -> Call {
+    bill_of_days(random, facts, MOST_DAYS_OF_SHORT_BILL)
+}
+
+fn bill_of_days(random: &mut Random, facts: &Facts, most_days: u32) -> Call {
+    let contract = open_contract(random, facts);
+    let span = free_span(random, facts, contract, most_days);
+    Call::Bill(bill_numbers(random, facts, contract, span))
+}
+
+fn rebill(random: &mut Random, facts: &Facts) -> Call {
+    let Some(row) = held_row(random, facts) else {
+        return bill(random, facts);
+    };
+    let (first, last) = row.span();
+    let last = match random.below(4) {
+        0 => random.within(first..=LAST_DAY),
+        1 => first,
+        _ => last,
+    };
+    Call::Rebill(bill_numbers(random, facts, row.contract, (first, last)))
+}
+
+/// The certificate starts with a row of the contract or a day later, mostly.
+fn cert(random: &mut Random, facts: &Facts) -> Call {
+    let row = held_row(random, facts);
+    let contract = match row {
+        Some(row) if !random.once_in(4) => row.contract,
+        _ => open_contract(random, facts),
+    };
+    let class = random.one_of(&[0, 1, 1, 2, 2]);
+    let effective_day = match (class, row) {
+        (0, _) => 0,
+        (_, Some(row)) if !random.once_in(3) => row.bill.first_day + random.within(0..=1),
+        _ => first_day(random),
+    };
+    Call::Cert {
+        contract,
+        class,
+        effective_day,
+    }
+}
+
+fn cancel(random: &mut Random, facts: &Facts) -> Call {
+    match held_row(random, facts) {
+        Some(row) => Call::Cancel {
+            contract: row.contract,
+            first: row.bill.first_day,
+        },
+        None => Call::Cancel {
+            contract: open_contract(random, facts),
+            first: SCHEME_FIRST_DAY,
+        },
+    }
+}
+
+fn claim(_: &mut Random, _: &Facts) -> Call {
+    Call::Claim
+}
+
+fn report(random: &mut Random, facts: &Facts) -> Call {
+    Call::Report {
+        contract: open_contract(random, facts),
+    }
+}
+
+fn total(_: &mut Random, _: &Facts) -> Call {
+    Call::Total
+}
+
+/// The numbers of a bill of the contract and span; WAP is 0 unless the contract is flexible.
+fn bill_numbers(
+    random: &mut Random,
+    facts: &Facts,
+    contract: u32,
+    (first, last): (u32, u32),
+) -> BillNumbers {
+    let kwh = match random.below(8) {
+        0 => random.one_of(&[0, 1, MOST_KWH]),
+        1 => random.within(0..=MOST_KWH),
+        _ => random.within(0..=99_999),
+    };
+    let terms = facts.contracts.get(contract as usize).copied().flatten();
+    let flexible = terms.is_some_and(|terms| terms.kind == Kind::Flexible);
+    BillNumbers {
+        contract,
+        first,
+        last,
+        kwh,
+        supply: random_price(random),
+        wap: if flexible { random_price(random) } else { 0 },
+    }
+}
+
+/// The contract numbers that are open, or that aren't.
+fn contract_numbers(facts: &Facts, open: bool) -> Vec<u32> {
+    let numbered = (0..).zip(&facts.contracts);
+    let wanted = numbered.filter(|(_, contract)| contract.is_some() == open);
+    wanted.map(|(number, _)| number).collect()
+}
+
+/// One of the contract numbers, or any if there is none.
+fn number_of(random: &mut Random, numbers: &[u32]) -> u32 {
+    if numbers.is_empty() {
+        random.below(CONTRACTS) as u32
+    } else {
+        random.one_of(numbers)
+    }
+}
+
+fn open_contract(random: &mut Random, facts: &Facts) -> u32 {
+    number_of(random, &contract_numbers(facts, true))
+}
+
+fn held_row(random: &mut Random, facts: &Facts) -> Option<Row> {
+    let rows = &facts.rows;
+    (!rows.is_empty()).then(|| random.one_of(rows))
+}
+
+fn contract_day(random: &mut Random) -> u32 {
+    if random.once_in(3) {
+        random.one_of(&BOUNDARY_CONTRACT_DAYS)
+    } else {
+        random.within(0..=LAST_DAY)
+    }
+}
+
+fn first_day(random: &mut Random) -> u32 {
+    if random.once_in(4) {
+        random.one_of(&BOUNDARY_DAYS)
+    } else {
+        random.within(SCHEME_FIRST_DAY..=LAST_DAY)
+    }
+}
+
+/// A span of the contract that shares no day with its rows, if one is found in a few tries.
+fn free_span(random: &mut Random, facts: &Facts, contract: u32, most_days: u32) -> (u32, u32) {
+    let mut span = any_span(random, most_days);
+    for _ in 0..6 {
+        let mut rows = facts.rows.iter().filter(|row| row.contract == contract);
+        if !rows.any(|row| spans_share_a_day(row.span(), span)) {
+            break;
+        }
+        span = any_span(random, most_days);
+    }
+    span
+}
+
+fn any_span(random: &mut Random, most_days: u32) -> (u32, u32) {
+    let first = first_day(random);
+    let last = first + random.within(0..=most_days - 1);
+    (first, last.min(LAST_DAY))
+}
