@@ -1,19 +1,20 @@
 -- What `src/word.rt` computes: bits extracted and inserted by shifts and masks, and the steps of a load and of a store.
-use mathlib.Core.Path.{_≡_, sym, ap, ap₂, _∙_, subst}
+use mathlib.Core.Path.{_≡_, refl, sym, ap, ap₂, _∙_, subst}
 use mathlib.Core.Bool.{Bool}
 use mathlib.Core.List.{List, [], _∷_, _++_, append-nil}
 use Prim.Native.Nat.{ℕ, zero, suc, _+_, _-_, _*_, _/_, _%_, _^_, _≤_, _<_}
-use native.Mathlib.Nat.{zero-mul, add-zero, add-mul, mul-assoc, one-mul, mod-lt, mod-eq-of-lt, mul-one, not-suc-le-zero, le-of-suc-le-suc}
+use native.Mathlib.Nat.{mul-le-mul-right, suc-mul, mul-comm, zero-mul, add-zero, add-mul, mul-assoc, one-mul, mod-lt, mod-eq-of-lt, mul-one, not-suc-le-zero, le-of-suc-le-suc}
 use native.Mathlib.Numerals.{add-one}
 use native.Mathlib.Omega.{arith}
-use lib.ListN.{length, take, getD, set}
-use lib.Seq.{take-suc, take-at, drop-at, paste, paste-suc}
+use lib.ListN.{length, take, drop, getD, set, length-drop}
+use lib.Seq.{getD-drop, take-suc, take-at, drop-at, paste, paste-suc}
 use lib.Dec.{lit<}
-use lib.Pow.{pow-pos, pow-add, split, shr-lt, shl-exact, shr-mod, ones-lt, ones-split, high-ones}
-use lib.Bits.{bitAnd, bitOr, and-mask, and-block, and-high, or-block, or-shifted, or-zero-r}
+use lib.Pow.{high, low, pow-pos, pow-add, split, shr-lt, shl-exact, shr-mod, ones-lt, ones-split, high-ones}
+use lib.Bits.{bitAnd, bitOr, and-mask, and-block, and-high, or-block, or-shifted, or-shifted-r, or-zero-r}
 use Rattle.fields.specs.Field.{value, bitsOf, bits, bytes, AreBytes}
+use Rattle.fields.specs.Words.{littleAt, reversed}
 use Rattle.fields.proofs.Bits.{value-append, value-bitsOf, length-bitsOf, bitsOf-add}
-use Rattle.fields.proofs.Laws.{length-bytes, bits-append}
+use Rattle.fields.proofs.Laws.{length-bytes, bits-append, are-drop}
 
 -- ---- shifts and masks: w bits with `below` bits below them
 
@@ -112,6 +113,64 @@ pub load-all : (l : List ℕ) (n j : ℕ) → j ≡ n → value (bits (take j l)
 load-all l n j e =
     let z : (n - j) * 8 ≡ 0 = omega arith in
     ap₂ (λ (m k : ℕ). value (bits (take m l)) * 2 ^ k) e z ∙ mul-one (value (bits (take n l)))
+
+-- ---- eight bytes, the first the least significant, and their order reversed
+
+-- `x | (v << below)`, where x is below v
+pub with-byte : (x v below : ℕ) → below ≤ 56 → x < 2 ^ below → v < 2 ^ 8
+    → (bitOr x (v * 2 ^ below % 2 ^ 64) ≡ v * 2 ^ below + x) × (bitOr x (v * 2 ^ below % 2 ^ 64) < 2 ^ (below + 8))
+with-byte x v below hb hx hv =
+    let e : bitOr x (v * 2 ^ below % 2 ^ 64) ≡ v * 2 ^ below + x = ap (bitOr x) (shl-exact 8 below 64 hv (omega arith)) ∙ or-shifted-r v below x hx in
+    let most : v * 2 ^ below + 2 ^ below ≤ 2 ^ (below + 8) = rw (pow-add 2 below 8) (mul-most v (2 ^ below) hv) in
+    (e, omega arith)
+  where
+    mul-most : (v p : ℕ) → v < 2 ^ 8 → v * p + p ≤ p * 2 ^ 8
+    mul-most v p h = let m : suc v * p ≤ 2 ^ 8 * p = mul-le-mul-right p h in omega (arith, suc-mul v p, mul-comm (2 ^ 8) p)
+
+no-bytes : (l : List ℕ) → value (bits (take 0 l)) ≡ 0
+unfolding value bits
+no-bytes l = refl
+
+-- the byte v of y, with the part `below` of k bits below it and the part `above` over it
+byte-of : (y k above v below : ℕ) → y ≡ (above * 2 ^ 8 + v) * 2 ^ k + below → below < 2 ^ k → v < 2 ^ 8 → y / 2 ^ k % 2 ^ 8 ≡ v
+byte-of y k above v below e hb hv =
+    ap (λ (n : ℕ). n / 2 ^ k % 2 ^ 8) e ∙ ap (λ (n : ℕ). n % 2 ^ 8) (high (above * 2 ^ 8 + v) k hb) ∙ low above 8 hv
+
+reversed-eight : (b0 b1 b2 b3 b4 b5 b6 b7 : ℕ) → b0 < 2 ^ 8 → b1 < 2 ^ 8 → b2 < 2 ^ 8 → b3 < 2 ^ 8 → b4 < 2 ^ 8 → b5 < 2 ^ 8 → b6 < 2 ^ 8 → b7 < 2 ^ 8
+    → reversed (b7 * 2 ^ 56 + (b6 * 2 ^ 48 + (b5 * 2 ^ 40 + (b4 * 2 ^ 32 + (b3 * 2 ^ 24 + (b2 * 2 ^ 16 + (b1 * 2 ^ 8 + b0)))))))
+    ≡ b0 * 2 ^ 56 + (b1 * 2 ^ 48 + (b2 * 2 ^ 40 + (b3 * 2 ^ 32 + (b4 * 2 ^ 24 + (b5 * 2 ^ 16 + (b6 * 2 ^ 8 + b7))))))
+unfolding reversed
+reversed-eight b0 b1 b2 b3 b4 b5 b6 b7 h0 h1 h2 h3 h4 h5 h6 h7 =
+    let y : ℕ = b7 * 2 ^ 56 + (b6 * 2 ^ 48 + (b5 * 2 ^ 40 + (b4 * 2 ^ 32 + (b3 * 2 ^ 24 + (b2 * 2 ^ 16 + (b1 * 2 ^ 8 + b0)))))) in
+    let e0 : y / 2 ^ 0 % 2 ^ 8 ≡ b0 = byte-of y 0 (b7 * 2 ^ 48 + (b6 * 2 ^ 40 + (b5 * 2 ^ 32 + (b4 * 2 ^ 24 + (b3 * 2 ^ 16 + (b2 * 2 ^ 8 + (b1))))))) b0 (0) (omega arith) (omega arith) h0 in
+    let e1 : y / 2 ^ 8 % 2 ^ 8 ≡ b1 = byte-of y 8 (b7 * 2 ^ 40 + (b6 * 2 ^ 32 + (b5 * 2 ^ 24 + (b4 * 2 ^ 16 + (b3 * 2 ^ 8 + (b2)))))) b1 (b0) (omega arith) (omega arith) h1 in
+    let e2 : y / 2 ^ 16 % 2 ^ 8 ≡ b2 = byte-of y 16 (b7 * 2 ^ 32 + (b6 * 2 ^ 24 + (b5 * 2 ^ 16 + (b4 * 2 ^ 8 + (b3))))) b2 (b1 * 2 ^ 8 + (b0)) (omega arith) (omega arith) h2 in
+    let e3 : y / 2 ^ 24 % 2 ^ 8 ≡ b3 = byte-of y 24 (b7 * 2 ^ 24 + (b6 * 2 ^ 16 + (b5 * 2 ^ 8 + (b4)))) b3 (b2 * 2 ^ 16 + (b1 * 2 ^ 8 + (b0))) (omega arith) (omega arith) h3 in
+    let e4 : y / 2 ^ 32 % 2 ^ 8 ≡ b4 = byte-of y 32 (b7 * 2 ^ 16 + (b6 * 2 ^ 8 + (b5))) b4 (b3 * 2 ^ 24 + (b2 * 2 ^ 16 + (b1 * 2 ^ 8 + (b0)))) (omega arith) (omega arith) h4 in
+    let e5 : y / 2 ^ 40 % 2 ^ 8 ≡ b5 = byte-of y 40 (b7 * 2 ^ 8 + (b6)) b5 (b4 * 2 ^ 32 + (b3 * 2 ^ 24 + (b2 * 2 ^ 16 + (b1 * 2 ^ 8 + (b0))))) (omega arith) (omega arith) h5 in
+    let e6 : y / 2 ^ 48 % 2 ^ 8 ≡ b6 = byte-of y 48 (b7) b6 (b5 * 2 ^ 40 + (b4 * 2 ^ 32 + (b3 * 2 ^ 24 + (b2 * 2 ^ 16 + (b1 * 2 ^ 8 + (b0)))))) (omega arith) (omega arith) h6 in
+    let e7 : y / 2 ^ 56 % 2 ^ 8 ≡ b7 = byte-of y 56 (0) b7 (b6 * 2 ^ 48 + (b5 * 2 ^ 40 + (b4 * 2 ^ 32 + (b3 * 2 ^ 24 + (b2 * 2 ^ 16 + (b1 * 2 ^ 8 + (b0))))))) (omega arith) (omega arith) h7 in
+    rw (e0, e1, e2, e3, e4, e5, e6, e7)
+
+-- the word of eight bytes, the first the most significant, is the other word with its bytes in reverse order
+pub reversed-little : (b : List ℕ) (first : ℕ) → AreBytes b → first + 8 ≤ length b → reversed (littleAt b first) ≡ value (bits (take 8 (drop first b)))
+unfolding littleAt
+reversed-little b first hb h =
+    reversed-eight _ _ _ _ _ _ _ _ (hb first) (hb (first + 1)) (hb (first + 2)) (hb (first + 3)) (hb (first + 4)) (hb (first + 5)) (hb (first + 6)) (hb (first + 7))
+    ∙ eight
+  where
+    l : List ℕ
+    l = drop first b
+
+    inside : (j : ℕ) → j < 8 → j < length l
+    inside j k = omega (arith, length-drop first b)
+
+    next : (j : ℕ) → j < 8 → value (bits (take (j + 1) l)) ≡ value (bits (take j l)) * 2 ^ 8 + getD b (first + j) 0
+    next j k = value-next l j (are-drop first b hb) (inside j k) ∙ ap (λ (n : ℕ). value (bits (take j l)) * 2 ^ 8 + n) (getD-drop first b j 0)
+
+    eight : getD b first 0 * 2 ^ 56 + (getD b (first + 1) 0 * 2 ^ 48 + (getD b (first + 2) 0 * 2 ^ 40 + (getD b (first + 3) 0 * 2 ^ 32
+        + (getD b (first + 4) 0 * 2 ^ 24 + (getD b (first + 5) 0 * 2 ^ 16 + (getD b (first + 6) 0 * 2 ^ 8 + getD b (first + 7) 0)))))) ≡ value (bits (take 8 l))
+    eight = omega (arith, no-bytes l, ap (λ (n : ℕ). getD b n 0) (add-zero first), next 0 (omega arith), next 1 (omega arith), next 2 (omega arith), next 3 (omega arith), next 4 (omega arith), next 5 (omega arith), next 6 (omega arith), next 7 (omega arith))
 
 -- ---- the store of the n low bytes of x
 

@@ -4,6 +4,7 @@ mod word;
 use word::extract;
 use word::insert;
 use word::load;
+use word::load_eight;
 use word::store;
 ghost use mathlib.Core.Path.{_≡_};
 ghost use Prim.Native.Nat.{_+_, _*_, _^_, _<_, _≤_};
@@ -27,7 +28,7 @@ pub fn get_window(s: &[u8], first: usize, at: usize, w: usize) -> u64
     requires { ⌜ (0 < w) × ((w ≤ 57) × ((first + 8 ≤ length (now s)) × ((8 * first ≤ at) × (at + w ≤ 8 * first + 64)))) ⌝ }
     ensures { λ r. ⌜ r ≡ fieldAt (now (s .entry)) at w ⌝ }
 {
-    extract(load(s, first, 8), 64 - (at - first * 8) - w, w)
+    extract(load_eight(s, first), 64 - (at - first * 8) - w, w)
 }
 
 // What the field of w bits from bit `at` on holds. Eight bytes are loaded at once, or all of a shorter
@@ -48,7 +49,7 @@ pub fn put_window(s: &mut [u8], first: usize, at: usize, w: usize, v: u64)
     requires { ⌜ (0 < w) × ((w ≤ 57) × ((first + 8 ≤ length (now s)) × ((8 * first ≤ at) × ((at + w ≤ 8 * first + 64) × (v < 2 ^ w))))) ⌝ }
     ensures { λ _. ⌜ now (s .exit) ≡ setField (now (s .entry)) at w v ⌝ }
 {
-    let x = insert(load(s, first, 8), 64 - (at - first * 8) - w, w, v);
+    let x = insert(load_eight(s, first), 64 - (at - first * 8) - w, w, v);
     store(s, first, 8, x);
 }
 

@@ -7,8 +7,8 @@ use borrow.Author.Needs.{needs}
 use Rattle.fields.proofs.get_window.Statement.{statement}
 use Rattle.fields.proofs.get_window.Tie as tie
 
-load-requires : tie.Need-load-requires
-load-requires c κs = search needs
+load-eight-requires : tie.Need-load-eight-requires
+load-eight-requires c κs = search needs
 
 mul-extract : tie.Need-mul-extract
 mul-extract c = search needs
@@ -29,14 +29,14 @@ returns : tie.Need-returns
 returns c =
     let at-load = c .before in
     let a = at-load .before .before .args in
-    get-law (a .s .now) (a .at) (a .w) (a .first) 8 (64 - (a .at - a .first * 8) - a .w) (at-load .load .result) (c .extract .result)
-    (omega arith) (omega arith) (omega arith) (at-load .load .ensures) (c .extract .ensures)
+    get-law (a .s .now) (a .at) (a .w) (a .first) 8 (64 - (a .at - a .first * 8) - a .w) (at-load .load-eight .result) (c .extract .result)
+    (omega arith) (omega arith) (omega arith) (at-load .load-eight .ensures) (c .extract .ensures)
 
 pub get-window-spec : {M : Type 1} → statement M
 get-window-spec =
     tie.close
     (tie.spec
-    load-requires
+    load-eight-requires
     mul-extract
     sub-extract
     sub-extract-2

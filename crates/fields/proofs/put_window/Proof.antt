@@ -7,8 +7,8 @@ use borrow.Author.Needs.{needs}
 use Rattle.fields.proofs.put_window.Statement.{statement}
 use Rattle.fields.proofs.put_window.Tie as tie
 
-load-requires : tie.Need-load-requires
-load-requires c κs = search needs
+load-eight-requires : tie.Need-load-eight-requires
+load-eight-requires c κs = search needs
 
 mul-insert : tie.Need-mul-insert
 mul-insert c = search needs
@@ -39,15 +39,15 @@ returns c =
     let at-known = at-load .before .before in
     let start = at-known .before in
     let a = start .args in
-    put-law (a .s .now) _ (a .at) (a .w) (a .v) (a .first) 8 (64 - (a .at - a .first * 8) - a .w) (at-load .load .result) (at-insert .insert .result)
+    put-law (a .s .now) _ (a .at) (a .w) (a .v) (a .first) 8 (64 - (a .at - a .first * 8) - a .w) (at-load .load-eight .result) (at-insert .insert .result)
     (λ k. at-known .slice-known .given k .fits) (omega arith) (omega arith) (omega arith) (start .pre .1 .1 .1 .1 .1)
-    (at-load .load .ensures) (at-insert .insert .ensures) (at-store .store .ensures)
+    (at-load .load-eight .ensures) (at-insert .insert .ensures) (at-store .store .ensures)
 
 pub put-window-spec : {M : Type 1} → statement M
 put-window-spec =
     tie.close
     (tie.spec
-    load-requires
+    load-eight-requires
     mul-insert
     sub-insert
     sub-insert-2

@@ -59,7 +59,7 @@ loop-again c =
       load-step (drop (a .first) (a .s .now)) (a .n) (at-loop .loop .j) (at-loop .loop .x) (c .wide .result)
           (are-drop (a .first) (a .s .now) (λ k. at-known .shared-slice-known .given k .fits))
           (omega (arith, length-drop (a .first) (a .s .now))) (omega arith) (omega arith) (at-loop .loop .inv .1)
-          (c .wide .ensures ∙ sym (getD-drop (a .first) (a .s .now) (at-loop .loop .j) 0)),
+          (c .wide .ensures .0 ∙ sym (getD-drop (a .first) (a .s .now) (at-loop .loop .j) 0)),
     )
 
 returns : tie.Need-returns Inv-loop μ-loop
