@@ -1,11 +1,11 @@
 -- What an accepted bill, rebill or cancellation has, and what it answers and leaves by the place of its row. Assumes nothing.
-use mathlib.Core.Path.{_≡_, refl, sym, ap, _∙_}
+use mathlib.Core.Path.{_≡_, refl, sym, ap, ap₂, _∙_, subst}
 use mathlib.Core.Bool.{true}
 use mathlib.Core.List.{List}
 use Prim.Native.Nat.{ℕ, _+_, _*_, _^_, _≤_, _<_}
 use native.Mathlib.Omega.{arith}
 use lib.Dec.{ltb}
-use lib.IntN.{subℕ}
+use lib.IntN.{ℤ, subℕ}
 use lib.ListN.{length}
 use Rattle.basics.specs.Lists.{count}
 use Rattle.basics.proofs.Tests.{le-yes, yes-lt, lt-yes}
@@ -32,16 +32,18 @@ use Rattle.layout.proofs.PackedLedger.{packed-format, round-trips, row-fits}
 use Rattle.codec.specs.Slots.{recordBytes}
 use Rattle.edits.proofs.PackedChanges.{inserted-row, removed-row, replaced-row}
 use Rattle.ledger.specs.declared.rows.RowTest.the-variants.{Named, After}
-use Rattle.ledger.specs.Rows.{rowAt, rowPasses}
+use Rattle.ledger.specs.Rows.{rowAt, rowPasses, Searched}
 use Rattle.ledger.specs.Check.{rowSlotAt}
 use Rattle.ledger.proofs.RowChecks.{row-amount-low}
-use Rattle.ledger.proofs.Scan.{rowOf}
-use Rattle.ledger.proofs.HeldRows.{rows-most, row-held}
+use Rattle.ledger.proofs.Scan.{rowOf as rowOfSlot}
+use Rattle.ledger.proofs.HeldRows.{rows-most, row-held, formed-length}
 use Rattle.bill_refusals.specs.Requests.{billOf, viewOf, Accepted}
 use Rattle.bill_refusals.proofs.Tests.{view-held, view-rows}
+use Rattle.bill_calls.specs.declared.accepted.RatedRow.{RatedRow}
+use Rattle.bill_calls.specs.RatedRows.{contractOf, rowOf, ratedRow, Rateable}
 
 -- the row of slot i's numbers
-row-is : (b : List ℕ) (i : ℕ) → rowAt b i ≡ rowOf (rowSlotAt b i)
+row-is : (b : List ℕ) (i : ℕ) → rowAt b i ≡ rowOfSlot (rowSlotAt b i)
 unfolding rowAt
 row-is b i = refl
 
@@ -52,28 +54,34 @@ module _ (b : List ℕ) where
   -- ---- the request of an accepted bill or rebill
 
   module _ (formed : wellFormed document01 packedLayout b ≡ true) (q : BillRequest) (t : Taken document01 (viewOf b) q) where
-    abbrev k : Contract
-    k = contractAt (contractsIn document01 packedLayout b) (q .contract)
-
     facts : WellFormed document01 l
     facts = packed-format .unpacked b formed
 
-    pub request-open : isOpen (contractsIn document01 packedLayout b) (q .contract) ≡ true
-    unfolding view ledgerOf
-    request-open = t .isOpened
-
-    row-ok : RowOk document01 (contractsIn document01 packedLayout b) (priced document01 k (billOf k q))
+    row-ok : RowOk document01 (contractsIn document01 packedLayout b) (rowOf b q)
     unfolding view ledgerOf billOf requestedBill
     row-ok = new-row document01 document01-laws (viewOf b) q (facts .contracts) t
 
-    pub request-low : (q .kwh ≤ 100000000) × (q .supply ≤ 999999)
-    unfolding billOf priced
-    request-low =
-        let tests = bill-test k (billOf k q) (row-ok .ranges) in
-        (le-yes (q .kwh) 100000000 (tests 1), le-yes (q .supply) 999999 (tests 2))
+    pub request-rateable : Rateable b q
+    unfolding view ledgerOf billOf priced
+    request-rateable =
+        let tests = bill-test (contractOf b q) (billOf (contractOf b q) q) (row-ok .ranges) in
+        record {
+          sized = formed-length b formed;
+          number = t .number;
+          isOpened = t .isOpened;
+          kwh = le-yes (q .kwh) 100000000 (tests 1);
+          supply = le-yes (q .supply) 999999 (tests 2);
+        }
 
-    pub request-fits : Fit (rowKind .widths) (rowKind .values (priced document01 k (billOf k q)))
-    request-fits = row-fits (contractsIn document01 packedLayout b) (priced document01 k (billOf k q)) row-ok
+    pub request-fits : (x : Row) → x ≡ rowOf b q → Fit (rowKind .widths) (rowKind .values x)
+    request-fits x e = subst (λ (y : Row). Fit (rowKind .widths) (rowKind .values y)) (sym e) (row-fits (contractsIn document01 packedLayout b) (rowOf b q) row-ok)
+
+    -- its amount, as any in range
+    pub request-amount-low : (x : Row) → x ≡ rowOf b q → x .amount < 2 ^ 62
+    unfolding priced billOf
+    request-amount-low x e =
+        let same : x .amount ≡ rowOf b q .amount = ap (λ (y : Row). y .amount) e in
+        omega (arith, amount-bits (contractOf b q) (billOf (contractOf b q) q) (request-rateable .kwh) (request-rateable .supply))
 
   -- ---- bill
 
@@ -84,51 +92,46 @@ module _ (b : List ℕ) where
     abbrev place : ℕ
     place = placeOf (rowPasses (After (q .contract) (q .first))) (l .rows)
 
-    abbrev new : Row
-    new = priced document01 (k (a .searched .formed) q bill-taken) (billOf (k (a .searched .formed) q bill-taken) q)
-
     pub bill-room : rows < 1024
     bill-room = omega (arith, a .searched .count, view-rows b, document01-laws .bill-room (viewOf b) q (a .nothing))
 
     pub bill-place : place ≤ rows
     bill-place = omega (arith, a .searched .count, place-le (rowPasses (After (q .contract) (q .first))) (l .rows))
 
-    pub bill-left : (d : List ℕ) → d ≡ onPart 328 (328 + (rows + 1) * 18) (insertAt (place * 18) (recordBytes rowKind new)) b
-        → d ≡ bytesOf document01 packedLayout (accept document01 l (callBill q) .next)
+    pub bill-left : (d : List ℕ) (i : ℕ) (x : RatedRow) → i ≡ place → x ≡ ratedRow b q
+        → d ≡ onPart 328 (328 + (rows + 1) * 18) (insertAt (i * 18) (recordBytes rowKind (x .row))) b → d ≡ bytesOf document01 packedLayout (accept document01 l (callBill q) .next)
     unfolding accept requestedBill billOf sortsAfter priced ledgerOf
-    bill-left d e =
-        inserted-row l b d (sym (round-trips .bytes b (a .searched .formed))) rows place new (sym (a .searched .count)) bill-place bill-room e
-        ∙ ap (λ (xs : List Row). bytesOf document01 packedLayout (withRows l xs)) (sym (insert-at new (l .rows)))
+    bill-left d i x at made e =
+        let put = e ∙ ap₂ (λ (j : ℕ) (y : RatedRow). onPart 328 (328 + (rows + 1) * 18) (insertAt (j * 18) (recordBytes rowKind (y .row))) b) at made in
+        inserted-row l b d (sym (round-trips .bytes b (a .searched .formed))) rows place (rowOf b q) (sym (a .searched .count)) bill-place bill-room put
+        ∙ ap (λ (xs : List Row). bytesOf document01 packedLayout (withRows l xs)) (sym (insert-at (rowOf b q) (l .rows)))
 
-    pub bill-answer : Billed (new .bill .reference) (rate (k (a .searched .formed) q bill-taken) (new .bill)) (new .amount) ≡ accept document01 l (callBill q) .answers
+    pub bill-answer : (x : RatedRow) → x ≡ ratedRow b q → Billed (x .row .bill .reference) (x .rate) (x .row .amount) ≡ accept document01 l (callBill q) .answers
     unfolding accept requestedBill billOf priced ledgerOf
-    bill-answer = refl
+    bill-answer x made = ap (λ (y : RatedRow). Billed (y .row .bill .reference) (y .rate) (y .row .amount)) made
 
-  -- ---- the row with a contract and first day, which is held
+  -- ---- the row with a contract and first day, which is held, at place i
 
-  module _ (rows c first : ℕ) (formed : wellFormed document01 packedLayout b ≡ true) (count : rows ≡ length (l .rows)) (found : 0 < viewOf b .held (named c first)) where
-    abbrev at : ℕ
-    at = placeOf (rowPasses (Named c first)) (l .rows)
-
-    pub named-place : at < rows
-    named-place =
+  module _ (rows c first : ℕ) (s : Searched b rows) (found : 0 < viewOf b .held (named c first)) (i : ℕ) (at : i ≡ placeOf (rowPasses (Named c first)) (l .rows)) where
+    inside : i < length (l .rows)
+    inside =
         let some : ltb 0 (viewOf b .held (named c first)) ≡ true = yes-lt 0 (viewOf b .held (named c first)) found in
-        let h : at < length (l .rows) = lt-yes at (length (l .rows)) (sym (count-at (rowPasses (Named c first)) (l .rows)) ∙ ap (ltb 0) (view-held b (named c first)) ∙ some) in
+        let low = lt-yes (placeOf (rowPasses (Named c first)) (l .rows)) (length (l .rows)) (sym (count-at (rowPasses (Named c first)) (l .rows)) ∙ ap (ltb 0) (view-held b (named c first)) ∙ some) in
         omega arith
 
-    pub named-most : rows ≤ 1024
-    named-most = omega (arith, rows-most b formed)
+    pub named-place : (i < rows) × (rows ≤ 1024)
+    named-place = omega (arith, inside, s .count, rows-most b (s .formed))
 
     -- its amount
-    pub named-amount : (x : Row) → x ≡ rowAt b at → x .amount ≡ amountOf (named c first) (l .rows)
+    pub named-amount : (x : Row) → x ≡ rowAt b i → x .amount ≡ amountOf (named c first) (l .rows)
     named-amount x e =
-        let h : at < length (l .rows) = omega (arith, named-place) in
-        ap (λ (y : Row). y .amount) (e ∙ row-held b formed at x h) ∙ sym (amount-at (named c first) x (l .rows) h)
+        let low : placeOf (rowPasses (Named c first)) (l .rows) < length (l .rows) = omega (arith, inside) in
+        ap (λ (y : Row). y .amount) (e ∙ ap (rowAt b) at ∙ row-held b (s .formed) (placeOf (rowPasses (Named c first)) (l .rows)) x low) ∙ sym (amount-at (named c first) x (l .rows) low)
 
-    pub named-amount-low : (x : Row) → x ≡ rowAt b at → x .amount < 2 ^ 62
+    pub named-amount-low : (x : Row) → x ≡ rowAt b i → x .amount < 2 ^ 62
     named-amount-low x e =
-        let low : rowOf (rowSlotAt b at) .amount < 2 ^ 50 = row-amount-low b at in
-        let same : x .amount ≡ rowOf (rowSlotAt b at) .amount = ap (λ (y : Row). y .amount) (e ∙ row-is b at) in
+        let low : rowOfSlot (rowSlotAt b i) .amount < 2 ^ 50 = row-amount-low b i in
+        let same : x .amount ≡ rowOfSlot (rowSlotAt b i) .amount = ap (λ (y : Row). y .amount) (e ∙ row-is b i) in
         omega arith
 
   -- ---- rebill
@@ -140,28 +143,24 @@ module _ (b : List ℕ) where
     pub rebill-held : 0 < viewOf b .held (named (q .contract) (q .first))
     rebill-held = document01-laws .rebill-found (viewOf b) q (a .nothing)
 
-    abbrev rebilled : Row
-    rebilled = priced document01 (k (a .searched .formed) q rebill-taken) (billOf (k (a .searched .formed) q rebill-taken) q)
-
     abbrev old : ℕ
     old = placeOf (rowPasses (Named (q .contract) (q .first))) (l .rows)
 
-    pub rebill-left : (d : List ℕ) → d ≡ replaceAt (328 + old * 18) (recordBytes rowKind rebilled) b → d ≡ bytesOf document01 packedLayout (accept document01 l (callRebill q) .next)
+    pub rebill-left : (d : List ℕ) (i : ℕ) (x : RatedRow) → i ≡ old → x ≡ ratedRow b q
+        → d ≡ replaceAt (328 + i * 18) (recordBytes rowKind (x .row)) b → d ≡ bytesOf document01 packedLayout (accept document01 l (callRebill q) .next)
     unfolding accept requestedBill billOf priced ledgerOf
-    rebill-left d e =
-        let inside : old < length (l .rows) = omega (arith, a .searched .count, named-place rows (q .contract) (q .first) (a .searched .formed) (a .searched .count) rebill-held) in
-        replaced-row l b d (sym (round-trips .bytes b (a .searched .formed))) old rebilled inside (rows-most b (a .searched .formed)) e
-        ∙ ap (λ (xs : List Row). bytesOf document01 packedLayout (withRows l xs)) (sym (replace-at (named (q .contract) (q .first)) rebilled (l .rows)))
+    rebill-left d i x at made e =
+        let low : old < length (l .rows) = omega (arith, a .searched .count, named-place rows (q .contract) (q .first) (a .searched) rebill-held i at) in
+        let put = e ∙ ap₂ (λ (j : ℕ) (y : RatedRow). replaceAt (328 + j * 18) (recordBytes rowKind (y .row)) b) at made in
+        replaced-row l b d (sym (round-trips .bytes b (a .searched .formed))) old (rowOf b q) low (rows-most b (a .searched .formed)) put
+        ∙ ap (λ (xs : List Row). bytesOf document01 packedLayout (withRows l xs)) (sym (replace-at (named (q .contract) (q .first)) (rowOf b q) (l .rows)))
 
-    pub rebill-answer : (was : ℕ) → was ≡ amountOf (named (q .contract) (q .first)) (l .rows)
-        → Rebilled (rebilled .bill .reference) (rate (k (a .searched .formed) q rebill-taken) (rebilled .bill)) (subℕ (rebilled .amount) was) ≡ accept document01 l (callRebill q) .answers
+    pub rebill-answer : (x : RatedRow) (was : ℕ) (z : ℤ) → x ≡ ratedRow b q → was ≡ amountOf (named (q .contract) (q .first)) (l .rows) → z ≡ subℕ (x .row .amount) was
+        → Rebilled (x .row .bill .reference) (x .rate) z ≡ accept document01 l (callRebill q) .answers
     unfolding accept requestedBill billOf priced ledgerOf
-    rebill-answer was e = ap (λ (n : ℕ). Rebilled (rebilled .bill .reference) (rate (k (a .searched .formed) q rebill-taken) (rebilled .bill)) (subℕ (rebilled .amount) n)) e
-
-    -- the new amount, as any in range
-    pub rebill-amount-low : rebilled .amount < 2 ^ 62
-    unfolding priced billOf
-    rebill-amount-low = let low = request-low (a .searched .formed) q rebill-taken in omega (arith, amount-bits (k (a .searched .formed) q rebill-taken) (billOf (k (a .searched .formed) q rebill-taken) q) (low .0) (low .1))
+    rebill-answer x was z made e change =
+        ap (λ (y : ℤ). Rebilled (x .row .bill .reference) (x .rate) y) change
+        ∙ ap₂ (λ (y : RatedRow) (n : ℕ). Rebilled (y .row .bill .reference) (y .rate) (subℕ (y .row .amount) n)) made e
 
   -- ---- cancel
 
@@ -172,13 +171,13 @@ module _ (b : List ℕ) where
     abbrev gone : ℕ
     gone = placeOf (rowPasses (Named c first)) (l .rows)
 
-    pub cancel-left : (d : List ℕ) → d ≡ onPart 328 (328 + rows * 18) (removeAt (gone * 18) 18) b → d ≡ bytesOf document01 packedLayout (accept document01 l (callCancel c first) .next)
+    pub cancel-left : (d : List ℕ) (i : ℕ) → i ≡ gone → d ≡ onPart 328 (328 + rows * 18) (removeAt (i * 18) 18) b → d ≡ bytesOf document01 packedLayout (accept document01 l (callCancel c first) .next)
     unfolding accept
-    cancel-left d e =
-        removed-row l b d (sym (round-trips .bytes b (a .searched .formed))) rows gone (sym (a .searched .count)) (named-place rows c first (a .searched .formed) (a .searched .count) cancel-held)
-        (named-most rows c first (a .searched .formed) (a .searched .count) cancel-held) e
+    cancel-left d i at e =
+        let low = named-place rows c first (a .searched) cancel-held gone refl in
+        removed-row l b d (sym (round-trips .bytes b (a .searched .formed))) rows gone (sym (a .searched .count)) (low .0) (low .1) (e ∙ ap (λ (j : ℕ). onPart 328 (328 + rows * 18) (removeAt (j * 18) 18) b) at)
         ∙ ap (λ (xs : List Row). bytesOf document01 packedLayout (withRows l xs)) (sym (remove-at (named c first) (l .rows)))
 
-    pub cancel-answer : (was : ℕ) → was ≡ amountOf (named c first) (l .rows) → Cancelled (subℕ 0 was) ≡ accept document01 l (callCancel c first) .answers
+    pub cancel-answer : (was : ℕ) (z : ℤ) → was ≡ amountOf (named c first) (l .rows) → z ≡ subℕ 0 was → Cancelled z ≡ accept document01 l (callCancel c first) .answers
     unfolding accept
-    cancel-answer was e = ap (λ (n : ℕ). Cancelled (subℕ 0 n)) e
+    cancel-answer was z e change = ap (λ (y : ℤ). Cancelled y) change ∙ ap (λ (n : ℕ). Cancelled (subℕ 0 n)) e

@@ -1,2 +1,3 @@
--- What an accepted bill, rebill or cancellation has, answers and leaves.
+-- What an accepted bill, rebill or cancellation has, answers and leaves, and what any of the three does.
 pub mod AcceptedRows
+pub mod CheckedCalls

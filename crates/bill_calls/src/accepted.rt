@@ -18,6 +18,7 @@ ghost use Rattle.model.specs.Document01.{document01};
 ghost use Rattle.layout.specs.Layout.{ledgerOf, bytesOf};
 ghost use Rattle.layout.specs.PackedLedger.{packedLayout};
 ghost use Rattle.bill_refusals.specs.Requests.{billRequest, billOf, Accepted};
+ghost use Rattle.bill_calls.specs.RatedRows.{ratedRow, Rateable};
 
 // The row of a request under its contract.
 fn row_of(contract: Contract, book: &[u32], request: Request) -> Row
@@ -38,15 +39,34 @@ fn row_of(contract: Contract, book: &[u32], request: Request) -> Row
     }
 }
 
+// A row with its rate.
+struct RatedRow {
+    row: Row,
+    rate: u64,
+}
+
+// The row of a request under the contract that it names, with its rate.
+fn rated_row(ledger: &[u8], book: &[u32], request: Request) -> RatedRow
+    requires { ⌜ Rateable (now ledger) (billRequest request (now book)) ⌝ }
+    ensures { λ r. ⌜ r ≡ ratedRow (now (ledger .entry)) (billRequest request (now (book .entry))) ⌝ }
+{
+    let contract = contract_at(ledger, request.contract as usize);
+    let row = row_of(contract, book, request);
+    let bill = row.bill;
+    RatedRow {
+        row,
+        rate: rates::rate(contract, bill),
+    }
+}
+
 // bill: the row goes in at its place.
 pub fn accept_bill(ledger: &mut [u8], rows: usize, book: &[u32], request: Request) -> Answer
     requires { ⌜ Accepted (now ledger) rows (callBill (billRequest request (now book))) ⌝ }
     ensures { λ r. ⌜ (r ≡ accept document01 (ledgerOf document01 packedLayout (now (ledger .entry))) (callBill (billRequest request (now (book .entry)))) .answers) × (now (ledger .exit) ≡ bytesOf document01 packedLayout (accept document01 (ledgerOf document01 packedLayout (now (ledger .entry))) (callBill (billRequest request (now (book .entry)))) .next)) ⌝ }
 {
-    let contract = contract_at(ledger, request.contract as usize);
-    let row = row_of(contract, book, request);
+    let rated = rated_row(ledger, book, request);
+    let row = rated.row;
     let bill = row.bill;
-    let rate = rates::rate(contract, bill);
     let after = RowTest::After {
         contract: request.contract,
         first: request.first,
@@ -55,7 +75,7 @@ pub fn accept_bill(ledger: &mut [u8], rows: usize, book: &[u32], request: Reques
     edits::insert_row(ledger, rows, place, row);
     Answer::Billed {
         reference: bill.reference,
-        rate,
+        rate: rated.rate,
         amount: row.amount,
     }
 }
@@ -65,10 +85,9 @@ pub fn accept_rebill(ledger: &mut [u8], rows: usize, book: &[u32], request: Requ
     requires { ⌜ Accepted (now ledger) rows (callRebill (billRequest request (now book))) ⌝ }
     ensures { λ r. ⌜ (r ≡ accept document01 (ledgerOf document01 packedLayout (now (ledger .entry))) (callRebill (billRequest request (now (book .entry)))) .answers) × (now (ledger .exit) ≡ bytesOf document01 packedLayout (accept document01 (ledgerOf document01 packedLayout (now (ledger .entry))) (callRebill (billRequest request (now (book .entry)))) .next)) ⌝ }
 {
-    let contract = contract_at(ledger, request.contract as usize);
-    let row = row_of(contract, book, request);
+    let rated = rated_row(ledger, book, request);
+    let row = rated.row;
     let bill = row.bill;
-    let rate = rates::rate(contract, bill);
     let same = RowTest::Named {
         contract: request.contract,
         first: request.first,
@@ -78,7 +97,7 @@ pub fn accept_rebill(ledger: &mut [u8], rows: usize, book: &[u32], request: Requ
     edits::replace_row(ledger, place, row);
     Answer::Rebilled {
         reference: bill.reference,
-        rate,
+        rate: rated.rate,
         change: difference(row.amount, old.amount),
     }
 }

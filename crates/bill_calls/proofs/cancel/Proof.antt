@@ -1,15 +1,17 @@
 -- `cancel` is refused, or answers and leaves what an accepted call does.
 use mathlib.Core.Path.{_≡_, sym, _∙_}
-use native.Mathlib.Omega.{arith}
-use Rattle.ledger.proofs.Machine.{Sound, check-sound, searched, machine-refused, machine-accepted, answered-and-left, malformed-refused}
 use Rattle.model.specs.Calls.{callCancel}
+use Rattle.ledger.specs.declared.check.Checked.the-variants.{WellFormed}
+use Rattle.ledger.specs.Check.{checkedOf}
+use Rattle.ledger.proofs.Machine.{check-sound, searched}
+use Rattle.bill_calls.proofs.CheckedCalls.{malformed-meets, refused-meets, call-accepted, accepted-meets}
 use borrow.Author.Needs.{needs}
 use Rattle.bill_calls.proofs.cancel.Statement.{statement}
 use Rattle.bill_calls.proofs.cancel.Tie as tie
 
 -- the check found the ledger well formed
-sound : (c : tie.After-known-told) → Sound (c .before .before .before .before .before .before .args .ledger .now) (c .before .rows .given .0 .0) (c .before .rows .given .0 .1 .0)
-sound c = check-sound _ _ _ (sym (c .before .rows .given .1) ∙ c .before .before .before .check .ensures)
+checked : (c : tie.After-known-told) → WellFormed (c .before .rows .given .0 .0) (c .before .rows .given .0 .1 .0) ≡ checkedOf (c .before .before .before .before .before .before .args .ledger .now)
+checked c = sym (c .before .rows .given .1) ∙ c .before .before .before .check .ensures
 
 check-requires : tie.Need-check-requires
 check-requires c κs = search needs
@@ -24,43 +26,31 @@ same-length : tie.Need-same-length
 same-length c = search needs
 
 returns : tie.Need-returns
-returns c =
-    let start = c .before .before .before .before .before in
-    answered-and-left (malformed-refused (start .args .ledger .now) (callCancel (start .args .contract) (start .args .first)) (sym (c .enum-told .given .1) ∙ c .before .before .check .ensures))
+returns c = malformed-meets _ _ (sym (c .enum-told .given .1) ∙ c .before .before .check .ensures)
 
 cast-refused-cancel : tie.Need-cast-refused-cancel
 cast-refused-cancel c = search needs
 
 refused-cancel-requires : tie.Need-refused-cancel-requires
-refused-cancel-requires c κs = searched _ (sound (c .before))
+refused-cancel-requires c κs = searched _ (check-sound _ _ _ (checked (c .before)))
 
 same-length-2 : tie.Need-same-length-2
 same-length-2 c = search needs
 
 returns-2 : tie.Need-returns-2
-returns-2 c =
-    let start = c .before .before .before .before .before .before .before .before .before in
-    let found = sound (c .before .before .before) in
-    let n = c .before .refused-cancel .result in
-    let some : n ≡ 0 → ⊥ = c .if1 .taken in
-    answered-and-left (machine-refused (start .args .ledger .now) (callCancel (start .args .contract) (start .args .first)) (found .formed) n (omega arith) (sym (c .before .refused-cancel .ensures)))
+returns-2 c = refused-meets _ _ _ _ _ (checked (c .before .before .before)) (c .before .refused-cancel .ensures) (c .if1 .taken)
 
 cast-accept-cancel : tie.Need-cast-accept-cancel
 cast-accept-cancel c = search needs
 
 accept-cancel-requires : tie.Need-accept-cancel-requires
-accept-cancel-requires c κs =
-    record { searched = searched _ (sound (c .before .before .before .before)); nothing = sym (c .before .before .refused-cancel .ensures) ∙ c .before .if1 .left }
+accept-cancel-requires c κs = call-accepted _ _ _ _ _ (checked (c .before .before .before .before)) (c .before .before .refused-cancel .ensures) (c .before .if1 .left)
 
 same-length-3 : tie.Need-same-length-3
 same-length-3 c = search needs
 
 returns-3 : tie.Need-returns-3
-returns-3 c =
-    let start = c .before .before .before .before .before .before .before .before .before .before .before .before .before in
-    let found = sound (c .before .before .before .before .before .before .before) in
-    let m = machine-accepted (start .args .ledger .now) (callCancel (start .args .contract) (start .args .first)) (found .formed) (sym (c .before .before .before .before .before .refused-cancel .ensures) ∙ c .before .before .before .before .if1 .left) in
-    (c .before .before .accept-cancel .ensures .0 ∙ sym (m .answered), c .before .before .accept-cancel .ensures .1 ∙ sym (m .left))
+returns-3 c = accepted-meets _ _ _ _ _ (checked (c .before .before .before .before .before .before .before)) (c .before .before .before .before .before .refused-cancel .ensures) (c .before .before .before .before .if1 .left) _ _ (c .before .before .accept-cancel .ensures)
 
 pub cancel-spec : {M : Type 1} → statement M
 cancel-spec =

@@ -1,55 +1,41 @@
 -- `accept_cancel` takes the row out and answers minus its amount.
-use mathlib.Core.Path.{ap, _∙_}
-use Prim.Native.Nat.{ℕ, _+_, _*_}
+use Prim.Native.Nat.{_<_, _≤_}
 use native.Mathlib.Omega.{arith}
-use lib.IntN.{ℤ}
-use Rattle.records.specs.Edits.{removeAt, onPart}
-use Rattle.model.specs.declared.Answer.the-variants.{Cancelled}
-use Rattle.ledger.specs.Rows.{rowAt}
 use Rattle.ledger.proofs.HeldRows.{formed-length}
 use Rattle.signed.proofs.SignedDifferences.{signed-read}
-use Rattle.bill_calls.proofs.AcceptedRows.{named-place, named-most, named-amount, named-amount-low, cancel-held, cancel-left, cancel-answer}
+use Rattle.bill_calls.proofs.AcceptedRows.{named-place, named-amount, named-amount-low, cancel-held, cancel-left, cancel-answer}
 use borrow.Author.Needs.{needs}
 use Rattle.bill_calls.proofs.accepted.accept_cancel.Statement.{statement}
 use Rattle.bill_calls.proofs.accepted.accept_cancel.Tie as tie
 
 first-row-requires : tie.Need-first-row-requires
-first-row-requires c κs = c .before .before .pre .searched
+first-row-requires c κs = search needs
+
+-- the place that is found is that of a held row
+place-low : (c : tie.After-first-row) → (c .first-row .result < c .before .before .before .args .rows) × (c .before .before .before .args .rows ≤ 1024)
+place-low c =
+    let start = c .before .before .before in
+    let a = start .pre in
+    let s = start .args in
+    named-place (s .ledger .now) (s .rows) (s .contract) (s .first) (a .searched) (cancel-held (s .ledger .now) (s .rows) (s .contract) (s .first) a) _ (c .first-row .ensures)
 
 row-at-requires : tie.Need-row-at-requires
 row-at-requires c κs =
     let start = c .before .before .before .before in
-    let a = start .pre in
-    let ledger = start .args .ledger .now in
-    let rows = start .args .rows in
-    let n = start .args .contract in
-    let first = start .args .first in
-    let low = named-place ledger rows n first (a .searched .formed) (a .searched .count) (cancel-held ledger rows n first a) in
-    let most = named-most ledger rows n first (a .searched .formed) (a .searched .count) (cancel-held ledger rows n first a) in
-    (formed-length ledger (a .searched .formed), rw (c .before .first-row .ensures) (omega arith))
+    (formed-length (start .args .ledger .now) (start .pre .searched .formed), omega (arith, place-low (c .before)))
 
 remove-row-requires : tie.Need-remove-row-requires
 remove-row-requires c κs =
     let start = c .before .before .before .before .before .before in
-    let a = start .pre in
-    let ledger = start .args .ledger .now in
-    let rows = start .args .rows in
-    let n = start .args .contract in
-    let first = start .args .first in
-    let low = named-place ledger rows n first (a .searched .formed) (a .searched .count) (cancel-held ledger rows n first a) in
-    let most = named-most ledger rows n first (a .searched .formed) (a .searched .count) (cancel-held ledger rows n first a) in
-    (formed-length ledger (a .searched .formed), (rw (c .before .before .before .first-row .ensures) low, most))
+    (formed-length (start .args .ledger .now) (start .pre .searched .formed), omega (arith, place-low (c .before .before .before)))
 
 difference-requires : tie.Need-difference-requires
 difference-requires c κs =
     let start = c .before .before .before .before .before .before .before .before .before in
     let a = start .pre in
-    let ledger = start .args .ledger .now in
-    let rows = start .args .rows in
-    let n = start .args .contract in
-    let first = start .args .first in
-    let read = c .before .before .before .before .row-at .ensures ∙ ap (rowAt ledger) (c .before .before .before .before .before .before .first-row .ensures) in
-    (omega arith, named-amount-low ledger rows n first (a .searched .formed) (a .searched .count) (cancel-held ledger rows n first a) (c .before .before .before .before .row-at .result) read)
+    let s = start .args in
+    let old = named-amount-low (s .ledger .now) (s .rows) (s .contract) (s .first) (a .searched) (cancel-held (s .ledger .now) (s .rows) (s .contract) (s .first) a) _ (c .before .before .before .before .before .before .first-row .ensures) _ (c .before .before .before .before .row-at .ensures) in
+    omega (arith, old)
 
 same-length : tie.Need-same-length
 same-length c = search needs
@@ -62,11 +48,10 @@ returns c =
     let rows = start .args .rows in
     let n = start .args .contract in
     let first = start .args .first in
-    let old = c .before .before .before .before .before .row-at .result in
-    let read = c .before .before .before .before .before .row-at .ensures ∙ ap (rowAt ledger) (c .before .before .before .before .before .before .before .first-row .ensures) in
+    let found = c .before .before .before .before .before .before .before .first-row .ensures in
+    let was = named-amount ledger rows n first (a .searched) (cancel-held ledger rows n first a) _ found _ (c .before .before .before .before .before .row-at .ensures) in
     let change = signed-read _ _ (record { sfits = c .difference .ok }) (c .difference .ensures) in
-    let left = c .before .before .before .remove-row .ensures ∙ ap (λ (i : ℕ). onPart 328 (328 + rows * 18) (removeAt (i * 18) 18) ledger) (c .before .before .before .before .before .before .before .first-row .ensures) in
-    (ap (λ (z : ℤ). Cancelled z) change ∙ cancel-answer ledger rows n first a (old .amount) (named-amount ledger rows n first (a .searched .formed) (a .searched .count) (cancel-held ledger rows n first a) old read), cancel-left ledger rows n first a _ left)
+    (cancel-answer ledger rows n first a _ _ was change, cancel-left ledger rows n first a _ _ found (c .before .before .before .remove-row .ensures))
 
 pub accept-cancel-spec : {M : Type 1} → statement M
 accept-cancel-spec =

@@ -1,0 +1,39 @@
+-- `rated_row` makes the row of the request under its contract, with its rate.
+use mathlib.Core.Path.{ap, ap₂, _∙_}
+use Prim.Native.Nat.{ℕ}
+use Rattle.rates.specs.declared.Contract.{Contract}
+use Rattle.rates.specs.Rates.{rate}
+use Rattle.model.specs.declared.Row.{Row}
+use Rattle.model.specs.Ledger.{priced}
+use Rattle.model.specs.Document01.{document01}
+use Rattle.bill_refusals.specs.Requests.{billRequest, billOf}
+use Rattle.bill_calls.specs.declared.accepted.RatedRow.{RatedRow}
+use borrow.Author.Needs.{needs}
+use Rattle.bill_calls.proofs.accepted.rated_row.Statement.{statement}
+use Rattle.bill_calls.proofs.accepted.rated_row.Tie as tie
+
+abbrev rated : Row → ℕ → RatedRow
+rated x n = record { row = x; rate = n }
+
+cast-contract-at : tie.Need-cast-contract-at
+cast-contract-at c = search needs
+
+contract-at-requires : tie.Need-contract-at-requires
+contract-at-requires c κs = search needs
+
+row-of-requires : tie.Need-row-of-requires
+row-of-requires c κs = search needs
+
+rate-requires : tie.Need-rate-requires
+rate-requires c κs = search needs
+
+returns : tie.Need-returns
+returns c =
+    let start = c .before .before .before .before .before .before .before in
+    let q = billRequest (start .args .request) (start .args .book .now) in
+    let read = c .before .before .before .contract-at .ensures in
+    let made = c .before .before .row-of .ensures ∙ ap (λ (k : Contract). priced document01 k (billOf k q)) read in
+    ap₂ rated made (c .rate .ensures ∙ ap₂ (λ (k : Contract) (x : Row). rate k (x .bill)) read made)
+
+pub rated-row-spec : {M : Type 1} → statement M
+rated-row-spec = tie.close (tie.spec cast-contract-at contract-at-requires row-of-requires rate-requires returns)

@@ -1,0 +1,2 @@
+-- The row that a request makes.
+pub mod RatedRows
