@@ -27,6 +27,7 @@ use Rattle.model.proofs.Postings.{bytes-same-as-postings}
 use Rattle.model.proofs.BytesBalance.{bytes-balance, bytes-well-formed}
 use Rattle.layout.specs.Layout.{rowTest, contractsFrom, rowsFrom, ledgerSize}
 use Rattle.layout.specs.PackedLedger.{contractKind, rangesOf, rowKind, packedLayout, packedLedger}
+use Rattle.layout.specs.Offsets.{firstContract, firstRow, ledgerLength}
 use Rattle.layout.specs.Theorems.{packedMachine, PackedSize, RoundTrips, DemandThree, PackedHistoriesHoldTheirFacts, PackedAnswersFromTheSheet, PackedSameAsPostings, NumberTwoMeetsNoCall}
 use Rattle.layout.proofs.LayoutLaws.{LayoutLaws, row-facts}
 use Rattle.layout.proofs.RoundTrips.{listed-elements, format-laws, unpacked-packed, repacked, well-formed-exactly}
@@ -34,6 +35,11 @@ use Rattle.layout.proofs.RoundTrips.{listed-elements, format-laws, unpa
 pub packed-size : PackedSize
 unfolding ledgerSize rowsFrom contractsFrom size
 packed-size = refl
+
+-- the parts begin and end by the layout
+pub packed-offsets : (contractsFrom document01 packedLayout ≡ firstContract) × ((rowsFrom document01 packedLayout ≡ firstRow) × (ledgerSize document01 packedLayout ≡ ledgerLength))
+unfolding ledgerSize rowsFrom contractsFrom size
+packed-offsets = (refl, (refl, refl))
 
 -- ---- contracts
 

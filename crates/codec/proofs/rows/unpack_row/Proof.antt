@@ -6,40 +6,20 @@ use borrow.Author.Needs.{needs}
 use Rattle.codec.proofs.rows.unpack_row.Statement.{statement}
 use Rattle.codec.proofs.rows.unpack_row.Tie as tie
 
-get-requires : tie.Need-get-requires
-get-requires c κs = search needs
-
-get-requires-2 : tie.Need-get-requires-2
-get-requires-2 c κs = search needs
-
-get-requires-3 : tie.Need-get-requires-3
-get-requires-3 c κs = search needs
-
-get-requires-4 : tie.Need-get-requires-4
-get-requires-4 c κs = search needs
-
-get-requires-5 : tie.Need-get-requires-5
-get-requires-5 c κs = search needs
-
-get-requires-6 : tie.Need-get-requires-6
-get-requires-6 c κs = search needs
-
-get-requires-7 : tie.Need-get-requires-7
-get-requires-7 c κs = search needs
-
 returns : tie.Need-returns
 unfolding recordIn slotNumbers unpack fields
 returns c = cc
 
+-- each field lies in the slot
 pub unpack-row-spec : {M : Type 1} → statement M
 unpack-row-spec =
     tie.close
     (tie.spec
-    get-requires
-    get-requires-2
-    get-requires-3
-    get-requires-4
-    get-requires-5
-    get-requires-6
-    get-requires-7
+    (λ c κs. search needs)
+    (λ c κs. search needs)
+    (λ c κs. search needs)
+    (λ c κs. search needs)
+    (λ c κs. search needs)
+    (λ c κs. search needs)
+    (λ c κs. search needs)
     returns)
