@@ -1,19 +1,21 @@
-// A contract in its 5 bytes.
+// A contract in its bytes.
 use crate::codes;
 use crate::numbers::get;
 use crate::numbers::put_all;
 use crate::ranges;
+use layout::CONTRACT_LENGTH;
 use rates::Contract;
 ghost use mathlib.Core.Path.{_≡_};
 ghost use lib.ListN.{length};
 ghost use Rattle.fields.specs.Fields.{Fit};
 ghost use Rattle.records.specs.Slots.{slotOk};
 ghost use Rattle.layout.specs.PackedLedger.{contractKind, rangesOf};
+ghost use Rattle.layout.specs.Offsets.{contractLength};
 ghost use Rattle.codec.specs.Slots.{slotNumbers, isTaken, recordIn, recordBytes};
 
 // Whether a contract's slot is open.
 pub fn is_open(s: &[u8]) -> bool
-    requires { ⌜ length (now s) ≡ 5 ⌝ }
+    requires { ⌜ length (now s) ≡ contractLength ⌝ }
     ensures { λ r. ⌜ r ≡ isTaken contractKind (now (s .entry)) ⌝ }
 {
     get(s, 0, 1) != 0
@@ -21,7 +23,7 @@ pub fn is_open(s: &[u8]) -> bool
 
 // The contract that a slot holds.
 pub fn unpack_contract(s: &[u8]) -> Contract
-    requires { ⌜ length (now s) ≡ 5 ⌝ }
+    requires { ⌜ length (now s) ≡ contractLength ⌝ }
     ensures { λ r. ⌜ r ≡ recordIn contractKind (now (s .entry)) ⌝ }
 {
     Contract {
@@ -33,7 +35,7 @@ pub fn unpack_contract(s: &[u8]) -> Contract
 
 // The slot that holds the contract.
 pub fn pack_contract(s: &mut [u8], contract: Contract)
-    requires { ⌜ (length (now s) ≡ 5) × Fit (contractKind .widths) (contractKind .values contract) ⌝ }
+    requires { ⌜ (length (now s) ≡ contractLength) × Fit (contractKind .widths) (contractKind .values contract) ⌝ }
     ensures { λ _. ⌜ now (s .exit) ≡ recordBytes contractKind contract ⌝ }
 {
     let fuel = contract.fuel;
@@ -55,14 +57,14 @@ pub fn pack_contract(s: &mut [u8], contract: Contract)
 
 // Whether a contract's slot is as it must be: zeros last, all zeros where it is not open, and its numbers in their ranges.
 pub fn slot_ok(s: &[u8], territory: u32) -> bool
-    requires { ⌜ length (now s) ≡ 5 ⌝ }
+    requires { ⌜ length (now s) ≡ contractLength ⌝ }
     ensures { λ r. ⌜ r ≡ slotOk contractKind (rangesOf territory) (slotNumbers contractKind (now (s .entry))) ⌝ }
 {
     if get(s, 36, 4) != 0 {
         return false;
     }
     if get(s, 0, 1) == 0 {
-        return records::is_zero(s, 0, 5);
+        return records::is_zero(s, 0, CONTRACT_LENGTH);
     }
     ranges::contract_ranges(
         territory,

@@ -1,4 +1,4 @@
-// The header in the ledger's first 8 bytes.
+// The header in the ledger's first bytes.
 use crate::numbers::get;
 use crate::numbers::put_all;
 ghost use mathlib.Core.Path.{_≡_};
@@ -11,23 +11,24 @@ ghost use Rattle.records.specs.Edits.{replaceAt};
 ghost use Rattle.model.specs.Document01.{document01};
 ghost use Rattle.layout.specs.Layout.{territoryIn, claimsIn, penceIn};
 ghost use Rattle.layout.specs.PackedLedger.{packedLayout};
+ghost use Rattle.layout.specs.Offsets.{firstContract};
 
 pub fn territory(b: &[u8]) -> u32
-    requires { ⌜ 8 ≤ length (now b) ⌝ }
+    requires { ⌜ firstContract ≤ length (now b) ⌝ }
     ensures { λ r. ⌜ r ≡ territoryIn document01 packedLayout (now (b .entry)) ⌝ }
 {
     get(b, 0, 1)
 }
 
 pub fn claims(b: &[u8]) -> u32
-    requires { ⌜ 8 ≤ length (now b) ⌝ }
+    requires { ⌜ firstContract ≤ length (now b) ⌝ }
     ensures { λ r. ⌜ r ≡ claimsIn document01 packedLayout (now (b .entry)) ⌝ }
 {
     get(b, 1, 16)
 }
 
 pub fn pence(b: &[u8]) -> u64
-    requires { ⌜ 8 ≤ length (now b) ⌝ }
+    requires { ⌜ firstContract ≤ length (now b) ⌝ }
     ensures { λ r. ⌜ r ≡ penceIn document01 packedLayout (now (b .entry)) ⌝ }
 {
     fields::get(b, 17, 47)
@@ -35,7 +36,7 @@ pub fn pence(b: &[u8]) -> u64
 
 // Writes the header anew.
 pub fn write_header(b: &mut [u8], territory: u32, claims: u32, pence: u64)
-    requires { ⌜ (8 ≤ length (now b)) × Fit (packedLayout .header) (territory ∷ claims ∷ pence ∷ []) ⌝ }
+    requires { ⌜ (firstContract ≤ length (now b)) × Fit (packedLayout .header) (territory ∷ claims ∷ pence ∷ []) ⌝ }
     ensures { λ _. ⌜ now (b .exit) ≡ replaceAt 0 (pack (packedLayout .header) (territory ∷ claims ∷ pence ∷ [])) (now (b .entry)) ⌝ }
 {
     let widths = [1usize, 16, 47];

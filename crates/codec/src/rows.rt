@@ -1,48 +1,103 @@
-// A row in its 18 bytes.
+// A row in its bytes.
 use crate::numbers::get_window;
 use crate::numbers::put_all;
+use layout::ROW_LENGTH;
 use model::Row;
 use rates::Bill;
 ghost use mathlib.Core.Path.{_≡_};
+ghost use mathlib.Core.List.{_∷_, _++_};
 ghost use lib.ListN.{length};
 ghost use Rattle.fields.specs.Fields.{Fit};
+ghost use Rattle.records.specs.Slots.{blank};
 ghost use Rattle.layout.specs.PackedLedger.{rowKind};
-ghost use Rattle.codec.specs.Slots.{isTaken, recordIn, recordBytes};
+ghost use Rattle.layout.specs.Offsets.{rowLength};
+ghost use Rattle.codec.specs.Slots.{isTaken, recordIn, recordBytes, paddingZero};
+
+// The widths of the fields, in bits.
+const CONTRACT_BITS: usize = 6;
+
+const DAY_BITS: usize = 10;
+
+const KWH_BITS: usize = 27;
+
+const PRICE_BITS: usize = 20;
+
+const AMOUNT_BITS: usize = 50;
+
+// The first bit of each field, after the bit that says whether the slot is held.
+const CONTRACT_AT: usize = 1;
+
+const FIRST_AT: usize = CONTRACT_AT + CONTRACT_BITS;
+
+const LAST_AT: usize = FIRST_AT + DAY_BITS;
+
+const KWH_AT: usize = LAST_AT + DAY_BITS;
+
+const REFERENCE_AT: usize = KWH_AT + KWH_BITS;
+
+const SUPPLY_AT: usize = REFERENCE_AT + PRICE_BITS;
+
+const AMOUNT_AT: usize = SUPPLY_AT + PRICE_BITS;
+
+// The first bytes of the windows of eight bytes that hold both prices, and the amount; those before them are in the first eight bytes.
+const PRICES_WINDOW: usize = REFERENCE_AT / 8;
+
+const AMOUNT_WINDOW: usize = ROW_LENGTH - 8;
+
+// How many numbers a slot has, and their widths.
+const NUMBERS: usize = 8;
+
+const WIDTHS: [usize; NUMBERS] = [
+    1,
+    CONTRACT_BITS,
+    DAY_BITS,
+    DAY_BITS,
+    KWH_BITS,
+    PRICE_BITS,
+    PRICE_BITS,
+    AMOUNT_BITS,
+];
 
 // Whether a row's slot is held.
 pub fn is_held(s: &[u8]) -> bool
-    requires { ⌜ length (now s) ≡ 18 ⌝ }
+    requires { ⌜ length (now s) ≡ rowLength ⌝ }
     ensures { λ r. ⌜ r ≡ isTaken rowKind (now (s .entry)) ⌝ }
 {
     get_window(s, 0, 0, 1) != 0
 }
 
-// The row that a slot holds, out of three windows of eight bytes: from byte 0, 6 and 10 on.
+// Whether the bits after a slot's fields are zeros. The fields of document 01's rows fill their bytes, so that there are none.
+pub fn padding_zero(s: &[u8]) -> bool
+    requires { ⌜ length (now s) ≡ rowLength ⌝ }
+    ensures { λ r. ⌜ r ≡ paddingZero rowKind (now (s .entry)) ⌝ }
+{
+    true
+}
+
+// The row that a slot holds.
 pub fn unpack_row(s: &[u8]) -> Row
-    requires { ⌜ length (now s) ≡ 18 ⌝ }
+    requires { ⌜ length (now s) ≡ rowLength ⌝ }
     ensures { λ r. ⌜ r ≡ recordIn rowKind (now (s .entry)) ⌝ }
 {
     Row {
         bill: Bill {
-            contract: get_window(s, 0, 1, 6),
-            first: get_window(s, 0, 7, 10),
-            last: get_window(s, 0, 17, 10),
-            kwh: get_window(s, 0, 27, 27),
-            reference: get_window(s, 6, 54, 20),
-            supply: get_window(s, 6, 74, 20),
+            contract: get_window(s, 0, CONTRACT_AT, CONTRACT_BITS),
+            first: get_window(s, 0, FIRST_AT, DAY_BITS),
+            last: get_window(s, 0, LAST_AT, DAY_BITS),
+            kwh: get_window(s, 0, KWH_AT, KWH_BITS),
+            reference: get_window(s, PRICES_WINDOW, REFERENCE_AT, PRICE_BITS),
+            supply: get_window(s, PRICES_WINDOW, SUPPLY_AT, PRICE_BITS),
         },
-        amount: fields::get_window(s, 10, 94, 50),
+        amount: fields::get_window(s, AMOUNT_WINDOW, AMOUNT_AT, AMOUNT_BITS),
     }
 }
 
-// The slot that holds the row.
-pub fn pack_row(s: &mut [u8], row: Row)
-    requires { ⌜ (length (now s) ≡ 18) × Fit (rowKind .widths) (rowKind .values row) ⌝ }
-    ensures { λ _. ⌜ now (s .exit) ≡ recordBytes rowKind row ⌝ }
+// The numbers of the slot that holds the row.
+fn slot_numbers(row: Row) -> [u64; NUMBERS]
+    ensures { λ r. ⌜ r ≡ 1 ∷ (rowKind .values row ++ blank (rowKind .zeros)) ⌝ }
 {
     let bill = row.bill;
-    let widths = [1usize, 6, 10, 10, 27, 20, 20, 50];
-    let values = [
+    [
         1,
         bill.contract as u64,
         bill.first as u64,
@@ -51,6 +106,15 @@ pub fn pack_row(s: &mut [u8], row: Row)
         bill.reference as u64,
         bill.supply as u64,
         row.amount,
-    ];
+    ]
+}
+
+// The slot that holds the row.
+pub fn pack_row(s: &mut [u8], row: Row)
+    requires { ⌜ (length (now s) ≡ rowLength) × Fit (rowKind .widths) (rowKind .values row) ⌝ }
+    ensures { λ _. ⌜ now (s .exit) ≡ recordBytes rowKind row ⌝ }
+{
+    let widths = WIDTHS;
+    let values = slot_numbers(row);
     put_all(s, &widths, &values);
 }

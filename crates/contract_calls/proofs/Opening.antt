@@ -15,9 +15,9 @@ use Rattle.model.proofs.RulesLaws.{Opened}
 use Rattle.model.proofs.Document01.{document01-laws}
 use Rattle.layout.specs.Layout.{ledgerOf}
 use Rattle.layout.specs.PackedLedger.{contractKind, packedLayout}
+use Rattle.layout.specs.Offsets.{firstContract, contractLength, contractCount}
 use Rattle.layout.proofs.PackedLedger.{packed-laws}
 use Rattle.codec.specs.Slots.{recordBytes}
-use Rattle.edits.specs.Offsets.{firstContract, contractLength, contractCount}
 use Rattle.edits.proofs.PackedChanges.{written-contract}
 use Rattle.ledger.proofs.Machine.{Answers, Sound, machine-accepted}
 

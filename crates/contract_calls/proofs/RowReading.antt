@@ -16,9 +16,9 @@ use Rattle.model.specs.Document01.{document01}
 use Rattle.model.specs.Ledger.{Ledger, withRows}
 use Rattle.layout.specs.Layout.{rowCount, bytesOf}
 use Rattle.layout.specs.PackedLedger.{rowKind, packedLayout}
+use Rattle.layout.specs.Offsets.{ledgerLength, firstRow, rowLength}
 use Rattle.layout.proofs.PackedLedger.{packed-laws}
 use Rattle.codec.specs.Slots.{slotNumbers, recordBytes}
-use Rattle.edits.specs.Offsets.{ledgerLength, firstRow, rowLength}
 use Rattle.edits.proofs.PackedChanges.{length-row, replaced-row}
 use Rattle.ledger.specs.Check.{rowSlotAt}
 use Rattle.ledger.specs.Rows.{rowAt}

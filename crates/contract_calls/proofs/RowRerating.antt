@@ -13,8 +13,8 @@ use Rattle.model.specs.declared.Row.{Row}
 use Rattle.model.specs.Document01.{document01}
 use Rattle.model.specs.Ledger.{priced, rerated}
 use Rattle.layout.specs.PackedLedger.{rowKind}
+use Rattle.layout.specs.Offsets.{firstRow, rowLength}
 use Rattle.codec.specs.Slots.{recordBytes}
-use Rattle.edits.specs.Offsets.{firstRow, rowLength}
 use Rattle.contract_calls.specs.declared.rerating.Rerated.{Rerated}
 use Rattle.contract_calls.specs.Rerating.{Ratable, rowRerated, slotRerated}
 

@@ -1,7 +1,7 @@
 -- The rows of a ledger re-rated one after the other: what is left to do, with what the rows passed left, is what is to be done. Assumes nothing.
 use mathlib.Core.Path.{_≡_, refl, sym, ap, ap₂, _∙_, subst}
 use mathlib.Core.Bool.{Bool, true, false, cond}
-use mathlib.Core.List.{List, map}
+use mathlib.Core.List.{List, [], map}
 use Prim.Native.Nat.{ℕ, _+_, _*_, _^_, _<_, _≤_}
 use native.Mathlib.Omega.{arith}
 use lib.Dec.{eqb}
@@ -19,14 +19,15 @@ use Rattle.model.specs.declared.Row.{Row}
 use Rattle.model.specs.Contracts.{Contracts, contractAt}
 use Rattle.model.specs.Document01.{document01}
 use Rattle.model.specs.Ledger.{Ledger, due, withRows, rerated}
+use Rattle.model.specs.RowNumbers.{rowOfNumbers}
 use Rattle.model.specs.WellFormed.{RowOk}
 use Rattle.model.proofs.Document01.{bill-test}
 use Rattle.layout.specs.Layout.{rowCount, wellFormed, ledgerOf, bytesOf}
 use Rattle.layout.specs.PackedLedger.{rowKind, packedLayout}
+use Rattle.layout.specs.Offsets.{ledgerLength, firstRow, rowLength}
 use Rattle.layout.proofs.LayoutLaws.{row-test}
 use Rattle.layout.proofs.PackedLedger.{packed-laws, packed-format, round-trips}
 use Rattle.codec.specs.Slots.{recordBytes}
-use Rattle.edits.specs.Offsets.{ledgerLength, firstRow, rowLength}
 use Rattle.edits.proofs.PackedChanges.{replaced-row}
 use Rattle.ledger.specs.Rows.{rowAt}
 use Rattle.ledger.proofs.HeldRows.{formed-length, rows-most}
@@ -37,7 +38,7 @@ use Rattle.contract_calls.proofs.RowReading.{row-read}
 use Rattle.contract_calls.proofs.RowRerating.{rated-fits, other-row, own-row}
 
 abbrev noRow : Row
-noRow = record { bill = record { contract = 0; first = 0; last = 0; kwh = 0; reference = 0; supply = 0 }; amount = 0 }
+noRow = rowOfNumbers []
 
 -- ---- the rows of a well-formed ledger
 

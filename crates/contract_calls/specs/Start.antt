@@ -12,7 +12,7 @@ use Rattle.model.specs.Ledger.{fresh}
 use Rattle.model.specs.Format.{unlessRefused}
 use Rattle.layout.specs.Layout.{bytesOf}
 use Rattle.layout.specs.PackedLedger.{packedLayout}
-use Rattle.edits.specs.Offsets.{ledgerLength}
+use Rattle.layout.specs.Offsets.{ledgerLength}
 
 -- the number that turns a start down: 2, the buffer isn't 18,760 bytes; 6, the territory code has no meaning
 unfoldable pub startRefusal : List ℕ → (territory : ℕ) → ℕ

@@ -7,6 +7,7 @@ use contracts::certify;
 use contracts::opening;
 use edits::fresh;
 use edits::write_contract;
+use layout::LEDGER_LENGTH;
 use ledger::check::Checked;
 use ledger::check::check;
 use ledger::contracts::contract_at;
@@ -19,9 +20,6 @@ ghost use mathlib.Core.Path.{_≡_};
 ghost use Rattle.model.specs.Calls.{callOpen, callCert};
 ghost use Rattle.layout.specs.Theorems.{packedMachine};
 ghost use Rattle.contract_calls.specs.Start.{startAnswer, startBytes};
-
-// How many bytes a packed ledger takes.
-const LEDGER_LENGTH: usize = 18760;
 
 // start: a fresh ledger over a buffer of any contents.
 pub fn start(ledger: &mut [u8], territory: u32) -> Answer

@@ -12,7 +12,7 @@ ghost use Rattle.model.specs.Document01.{document01};
 ghost use Rattle.model.specs.Ledger.{view};
 ghost use Rattle.layout.specs.Layout.{ledgerOf};
 ghost use Rattle.layout.specs.PackedLedger.{packedLayout};
-ghost use Rattle.edits.specs.Offsets.{ledgerLength};
+ghost use Rattle.layout.specs.Offsets.{ledgerLength};
 
 // The number that turns an open down.
 pub fn refused_open(

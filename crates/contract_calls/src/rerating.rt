@@ -11,7 +11,7 @@ ghost use Rattle.model.specs.Document01.{document01};
 ghost use Rattle.model.specs.Ledger.{withRows, rerated};
 ghost use Rattle.layout.specs.Layout.{rowCount, ledgerOf, bytesOf};
 ghost use Rattle.layout.specs.PackedLedger.{packedLayout};
-ghost use Rattle.edits.specs.Offsets.{ledgerLength};
+ghost use Rattle.layout.specs.Offsets.{ledgerLength};
 ghost use Rattle.ledger.specs.Rows.{rowAt, Searched};
 ghost use Rattle.contract_calls.specs.Rerating.{Ratable, rowRerated, rowsRerated, slotRerated};
 

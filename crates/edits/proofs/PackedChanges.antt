@@ -18,9 +18,9 @@ use Rattle.model.specs.Document01.{document01}
 use Rattle.model.specs.Ledger.{Ledger, fresh, withRows}
 use Rattle.layout.specs.Layout.{rowCount, contractsFrom, rowsFrom, ledgerSize, bytesOf}
 use Rattle.layout.specs.PackedLedger.{contractKind, rowKind, packedLayout}
+use Rattle.layout.specs.Offsets.{ledgerLength, firstContract, contractLength, contractCount, firstRow, rowLength}
 use Rattle.layout.proofs.Changes.{row-inserted, row-removed, row-replaced, contract-put, header-changed, fresh-bytes}
 use Rattle.codec.specs.Slots.{recordBytes}
-use Rattle.edits.specs.Offsets.{ledgerLength, firstContract, contractLength, contractCount, firstRow, rowLength}
 
 pub length-row : (x : Row) → length (recordBytes rowKind x) ≡ rowLength
 unfolding recordBytes size

@@ -2,6 +2,10 @@
 use codec::contracts::pack_contract;
 use codec::header::write_header;
 use codec::rows::pack_row;
+use layout::CONTRACT_LENGTH;
+use layout::FIRST_CONTRACT;
+use layout::FIRST_ROW;
+use layout::ROW_LENGTH;
 use model::Row;
 use rates::Contract;
 ghost use mathlib.Core.Path.{_≡_};
@@ -13,20 +17,8 @@ ghost use Rattle.model.specs.Document01.{document01};
 ghost use Rattle.model.specs.Ledger.{fresh};
 ghost use Rattle.layout.specs.Layout.{rowCount, bytesOf};
 ghost use Rattle.layout.specs.PackedLedger.{contractKind, rowKind, packedLayout};
+ghost use Rattle.layout.specs.Offsets.{ledgerLength, firstContract, contractLength, contractCount, firstRow, rowLength};
 ghost use Rattle.codec.specs.Slots.{recordBytes};
-ghost use Rattle.edits.specs.Offsets.{ledgerLength, firstContract, contractLength, contractCount, firstRow, rowLength};
-
-// The byte at which the contracts begin.
-const FIRST_CONTRACT: usize = 8;
-
-// How many bytes a contract takes.
-const CONTRACT_LENGTH: usize = 5;
-
-// The byte at which the rows begin.
-const FIRST_ROW: usize = 328;
-
-// How many bytes a row takes.
-const ROW_LENGTH: usize = 18;
 
 // Of the `rows` held rows, those from row i on move up, and the row comes in at place i.
 pub fn insert_row(b: &mut [u8], rows: usize, i: usize, row: Row)

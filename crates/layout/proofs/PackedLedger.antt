@@ -4,7 +4,7 @@ use mathlib.Core.Bool.{true}
 use mathlib.Core.List.{[], _∷_}
 use Prim.Native.Nat.{ℕ, _≤_}
 use native.Mathlib.Omega.{arith}
-use lib.ListN.{getD}
+use lib.ListN.{length, getD}
 use Rattle.basics.proofs.Tests.{le-yes, not-yes, lt-no}
 use Rattle.fields.specs.Fields.{Fit}
 use Rattle.records.specs.Pack.{size}
@@ -19,7 +19,7 @@ use Rattle.model.specs.WellFormed.{RowOk}
 use Rattle.model.specs.Format.{FormatLaws}
 use Rattle.model.proofs.Codes.{fuel-code, kind-code, kind-days, class-code, class-day, fuel-of-code, kind-of-code, certificate-of-code}
 use Rattle.model.proofs.AcceptedBill.{span-days, kind-low, days-low, effective-low}
-use Rattle.model.proofs.Document01.{contract-test, bill-test, document01-laws}
+use Rattle.model.proofs.Document01.{contract-test, bill-tests, document01-laws}
 use Rattle.model.proofs.Document01Balance.{balances-by-rates}
 use Rattle.model.proofs.HoldsFacts.{bytes-hold}
 use Rattle.model.proofs.SheetAnswers.{bytes-answer-from-the-sheet, accepted-claim-leaves-rest}
@@ -27,6 +27,7 @@ use Rattle.model.proofs.Postings.{bytes-same-as-postings}
 use Rattle.model.proofs.BytesBalance.{bytes-balance, bytes-well-formed}
 use Rattle.layout.specs.Layout.{rowTest, contractsFrom, rowsFrom, ledgerSize}
 use Rattle.layout.specs.PackedLedger.{contractKind, rangesOf, rowKind, packedLayout, packedLedger}
+use Rattle.layout.specs.Offsets.{firstContract, firstRow, ledgerLength}
 use Rattle.layout.specs.Theorems.{packedMachine, PackedSize, RoundTrips, DemandThree, PackedHistoriesHoldTheirFacts, PackedAnswersFromTheSheet, PackedSameAsPostings, NumberTwoMeetsNoCall}
 use Rattle.layout.proofs.LayoutLaws.{LayoutLaws, row-facts}
 use Rattle.layout.proofs.RoundTrips.{listed-elements, format-laws, unpacked-packed, repacked, well-formed-exactly}
@@ -34,6 +35,11 @@ use Rattle.layout.proofs.RoundTrips.{listed-elements, format-laws, unpa
 pub packed-size : PackedSize
 unfolding ledgerSize rowsFrom contractsFrom size
 packed-size = refl
+
+-- the parts begin and end by the layout
+pub packed-offsets : (contractsFrom document01 packedLayout ≡ firstContract) × ((rowsFrom document01 packedLayout ≡ firstRow) × (ledgerSize document01 packedLayout ≡ ledgerLength))
+unfolding ledgerSize rowsFrom contractsFrom size
+packed-offsets = (refl, (refl, refl))
 
 -- ---- contracts
 
@@ -72,19 +78,17 @@ contract-laws t = record {
 pub row-fits : (cs : Contracts) (x : Row) → RowOk document01 cs x → Fit (rowKind .widths) (rowKind .values x)
 unfolding partOfDue
 row-fits cs x o =
-    let q = bill-test (contractAt cs (x .bill .contract)) (x .bill) (o .ranges) in
-    let days = span-days (x .bill .first) (x .bill .last) (not-yes _ (q 0)) in
-    let kwh = le-yes (x .bill .kwh) 100000000 (q 1) in
-    let supply = le-yes (x .bill .supply) 999999 (q 2) in
-    let reference = le-yes (x .bill .reference) 999999 (q 3) in
-    omega (arith, o .number, o .part, amount-bits (contractAt cs (x .bill .contract)) (x .bill) kwh supply)
+    let k = contractAt cs (x .bill .contract) in
+    let q = bill-tests k (x .bill) (o .ranges) in
+    let days = span-days (x .bill .first) (x .bill .last) (not-yes _ (q .0)) in
+    omega (arith, le-yes, o .number, o .part, amount-bits k (x .bill) (le-yes _ _ (q .1 .0)) (le-yes _ _ (q .1 .1 .0)))
 
 row-laws : (cs : Contracts) → KindOk rowKind (rowTest document01 packedLayout cs)
 unfolding size
 row-laws cs = record {
   aligned = refl;
   of-values = λ x e. refl;
-  values-of = λ v l e. listed-elements 7 v l;
+  values-of = λ v l e. listed-elements (length (rowKind .widths)) v l;
   fits = λ x e. row-fits cs x (row-facts document01 cs x e);
 }
 

@@ -8,6 +8,7 @@ use Rattle.rates.specs.declared.Contract.{Contract}
 use Rattle.model.specs.declared.Row.{Row}
 use Rattle.model.specs.Codes.{fuelOf, fuelCode, kindOf, kindCode, priceFixDay, entryDay, certificateOf, classCode, effectiveDay}
 use Rattle.model.specs.Document01.{document01, contractRanges}
+use Rattle.model.specs.RowNumbers.{numbersOfRow, rowOfNumbers}
 use Rattle.model.specs.Format.{Format}
 use Rattle.layout.specs.Layout.{Layout, format}
 
@@ -33,18 +34,8 @@ abbrev pub rowKind : Kind Row
 rowKind = record {
   widths = 6 ∷ 10 ∷ 10 ∷ 27 ∷ 20 ∷ 20 ∷ 50 ∷ [];
   zeros = [];
-  values = λ x. x .bill .contract ∷ x .bill .first ∷ x .bill .last ∷ x .bill .kwh ∷ x .bill .reference ∷ x .bill .supply ∷ x .amount ∷ [];
-  of = λ v. record {
-    bill = record {
-      contract = getD v 0 0;
-      first = getD v 1 0;
-      last = getD v 2 0;
-      kwh = getD v 3 0;
-      reference = getD v 4 0;
-      supply = getD v 5 0;
-    };
-    amount = getD v 6 0;
-  };
+  values = numbersOfRow;
+  of = rowOfNumbers;
 }
 
 -- header: territory 1, claims made 16, net pence claimed 47

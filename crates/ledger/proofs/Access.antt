@@ -19,6 +19,7 @@ use Rattle.model.specs.Contracts.{contractIn, contractAt, isThere, isOpen}
 use Rattle.model.specs.Document01.{document01}
 use Rattle.layout.specs.Layout.{contractsFrom, contractSlots, contractsIn}
 use Rattle.layout.specs.PackedLedger.{contractKind, rowKind, packedLayout}
+use Rattle.layout.specs.Offsets.{firstContract, contractLength, contractCount, firstRow, ledgerLength}
 use Rattle.codec.specs.Slots.{slotNumbers, isTaken, recordIn}
 use Rattle.ledger.specs.Check.{rowSlotAt}
 
@@ -33,46 +34,46 @@ slot-numbers k e n i f b h l =
     inside i n s h l = omega (arith, native.Mathlib.Nat.mul-le-mul-right s h)
 
 -- row slot i
-pub row-slot : (b : List ℕ) (i : ℕ) → length b ≡ 18760 → i < 1024 → getD (slots rowKind 1024 (drop 328 b)) i [] ≡ rowSlotAt b i
+pub row-slot : (b : List ℕ) (i : ℕ) → length b ≡ ledgerLength → i < 1024 → getD (slots rowKind 1024 (drop firstRow b)) i [] ≡ rowSlotAt b i
 unfolding rowSlotAt size
-row-slot b i l h = slot-numbers rowKind refl 1024 i 328 b h (omega arith)
+row-slot b i l h = slot-numbers rowKind refl 1024 i firstRow b h (omega arith)
 
 -- contract slot c
-pub contract-slot : (b : List ℕ) (c : ℕ) → length b ≡ 18760 → c < 64
-    → getD (slots contractKind 64 (drop 8 b)) c [] ≡ slotNumbers contractKind (take 5 (drop (8 + c * 5) b))
+pub contract-slot : (b : List ℕ) (c : ℕ) → length b ≡ ledgerLength → c < contractCount
+    → getD (slots contractKind contractCount (drop firstContract b)) c [] ≡ slotNumbers contractKind (take contractLength (drop (firstContract + c * contractLength) b))
 unfolding size
-contract-slot b c l h = slot-numbers contractKind refl 64 c 8 b h (omega arith)
+contract-slot b c l h = slot-numbers contractKind refl contractCount c firstContract b h (omega arith)
 
 -- a test of all contract slots, by each
-module _ (b : List ℕ) (l : length b ≡ 18760) (test : List ℕ → Bool) where
-  pub contracts-pass : ((c : ℕ) → c < 64 → test (slotNumbers contractKind (take 5 (drop (8 + c * 5) b))) ≡ true) → every (map test (slots contractKind 64 (drop 8 b))) ≡ true
-  contracts-pass t = at-every-map test [] (slots contractKind 64 (drop 8 b))
-      (λ c h. let m : c < 64 = omega (arith, length-slots contractKind 64 (drop 8 b)) in ap test (contract-slot b c l m) ∙ t c m)
+module _ (b : List ℕ) (l : length b ≡ ledgerLength) (test : List ℕ → Bool) where
+  pub contracts-pass : ((c : ℕ) → c < contractCount → test (slotNumbers contractKind (take contractLength (drop (firstContract + c * contractLength) b))) ≡ true) → every (map test (slots contractKind contractCount (drop firstContract b))) ≡ true
+  contracts-pass t = at-every-map test [] (slots contractKind contractCount (drop firstContract b))
+      (λ c h. let m : c < contractCount = omega (arith, length-slots contractKind contractCount (drop firstContract b)) in ap test (contract-slot b c l m) ∙ t c m)
 
-  pub contracts-fail : (c : ℕ) → c < 64 → test (slotNumbers contractKind (take 5 (drop (8 + c * 5) b))) ≡ false → every (map test (slots contractKind 64 (drop 8 b))) ≡ false
-  contracts-fail c h t = fails-every-map test [] (slots contractKind 64 (drop 8 b)) c (omega (arith, length-slots contractKind 64 (drop 8 b))) (ap test (contract-slot b c l h) ∙ t)
+  pub contracts-fail : (c : ℕ) → c < contractCount → test (slotNumbers contractKind (take contractLength (drop (firstContract + c * contractLength) b))) ≡ false → every (map test (slots contractKind contractCount (drop firstContract b))) ≡ false
+  contracts-fail c h t = fails-every-map test [] (slots contractKind contractCount (drop firstContract b)) c (omega (arith, length-slots contractKind contractCount (drop firstContract b))) (ap test (contract-slot b c l h) ∙ t)
 
-module _ (b : List ℕ) (c : ℕ) (l : length b ≡ 18760) (h : c < 64) where
+module _ (b : List ℕ) (c : ℕ) (l : length b ≡ ledgerLength) (h : c < contractCount) where
   -- what it holds
-  contract-held : contractsIn document01 packedLayout b c ≡ slotIn contractKind (slotNumbers contractKind (take 5 (drop (8 + c * 5) b)))
+  contract-held : contractsIn document01 packedLayout b c ≡ slotIn contractKind (slotNumbers contractKind (take contractLength (drop (firstContract + c * contractLength) b)))
   unfolding contractSlots contractsFrom numbered size slotNumbers
   contract-held =
-      held-at contractKind refl 64 c 8 b h (omega arith) ∙ ap (slotIn contractKind) (sym (unpack-within b (8 + c * 5) (whole contractKind) refl (omega arith)))
+      held-at contractKind refl contractCount c firstContract b h (omega arith) ∙ ap (slotIn contractKind) (sym (unpack-within b (firstContract + c * contractLength) (whole contractKind) refl (omega arith)))
 
-  pub contract-open : isTaken contractKind (take 5 (drop (8 + c * 5) b)) ≡ isOpen (contractsIn document01 packedLayout b) c
+  pub contract-open : isTaken contractKind (take contractLength (drop (firstContract + c * contractLength) b)) ≡ isOpen (contractsIn document01 packedLayout b) c
   unfolding isTaken isOpen slotIn
-  contract-open = sym (ap isThere contract-held ∙ go (eqb (getD (slotNumbers contractKind (take 5 (drop (8 + c * 5) b))) 0 0) 0))
+  contract-open = sym (ap isThere contract-held ∙ go (eqb (getD (slotNumbers contractKind (take contractLength (drop (firstContract + c * contractLength) b))) 0 0) 0))
     where
-      go : (z : Bool) → isThere (cond z none (some (contractKind .of (recordFields contractKind (slotNumbers contractKind (take 5 (drop (8 + c * 5) b))))))) ≡ not z
+      go : (z : Bool) → isThere (cond z none (some (contractKind .of (recordFields contractKind (slotNumbers contractKind (take contractLength (drop (firstContract + c * contractLength) b))))))) ≡ not z
       go true = refl
       go false = refl
 
-  pub contract-read : isOpen (contractsIn document01 packedLayout b) c ≡ true → recordIn contractKind (take 5 (drop (8 + c * 5) b)) ≡ contractAt (contractsIn document01 packedLayout b) c
+  pub contract-read : isOpen (contractsIn document01 packedLayout b) c ≡ true → recordIn contractKind (take contractLength (drop (firstContract + c * contractLength) b)) ≡ contractAt (contractsIn document01 packedLayout b) c
   unfolding isOpen contractAt recordIn slotIn
-  contract-read e = sym (ap contractIn contract-held ∙ go (eqb (getD (slotNumbers contractKind (take 5 (drop (8 + c * 5) b))) 0 0) 0) (sym (ap isThere contract-held) ∙ e))
+  contract-read e = sym (ap contractIn contract-held ∙ go (eqb (getD (slotNumbers contractKind (take contractLength (drop (firstContract + c * contractLength) b))) 0 0) 0) (sym (ap isThere contract-held) ∙ e))
     where
       r : Contract
-      r = contractKind .of (recordFields contractKind (slotNumbers contractKind (take 5 (drop (8 + c * 5) b))))
+      r = contractKind .of (recordFields contractKind (slotNumbers contractKind (take contractLength (drop (firstContract + c * contractLength) b))))
 
       go : (z : Bool) → isThere (cond z none (some r)) ≡ true → contractIn (cond z none (some r)) ≡ r
       go true f = absurd (false≢true f)

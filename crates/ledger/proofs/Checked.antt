@@ -17,6 +17,7 @@ use Rattle.model.specs.Document01.{document01}
 use Rattle.model.specs.Ledger.{due}
 use Rattle.layout.specs.Layout.{contractsFrom, rowsFrom, ledgerSize, claimsIn, penceIn, contractTest, rowTest, contractsIn, rowSlots, comesBefore, wellFormed, ledgerOf}
 use Rattle.layout.specs.PackedLedger.{contractKind, rowKind, packedLayout}
+use Rattle.layout.specs.Offsets.{firstContract, contractCount, firstRow, ledgerLength}
 use Rattle.layout.proofs.LayoutLaws.{are-test}
 use Rattle.layout.proofs.PackedLedger.{packed-size}
 use Rattle.ledger.specs.declared.check.Checked.the-variants.{Malformed, WellFormed}
@@ -51,11 +52,11 @@ module _ (b : List ℕ) where
   unfolding checkedOf
   refused e = rw e
 
-  pub other-length : (length b ≡ 18760 → ⊥) → Malformed ≡ checkedOf b
+  pub other-length : (length b ≡ ledgerLength → ⊥) → Malformed ≡ checkedOf b
   unfolding wellFormed
   other-length n = refused (rw (no-eq (length b) (ledgerSize document01 packedLayout) (λ e. n (e ∙ packed-size))))
 
-  module _ (bytes : AreBytes b) (l : length b ≡ 18760) where
+  module _ (bytes : AreBytes b) (l : length b ≡ ledgerLength) where
     long : eqb (length b) (ledgerSize document01 packedLayout) ≡ true
     long = yes-eq (length b) (ledgerSize document01 packedLayout) (l ∙ sym packed-size)
 
@@ -67,10 +68,10 @@ module _ (b : List ℕ) where
     penceTested = not (eqb (claimsIn document01 packedLayout b) 0) || eqb (penceIn document01 packedLayout b) 0
 
     abbrev contractsTested : Bool
-    contractsTested = every (map (slotOk contractKind (contractTest document01 packedLayout b)) (slots contractKind 64 (drop 8 b)))
+    contractsTested = every (map (slotOk contractKind (contractTest document01 packedLayout b)) (slots contractKind contractCount (drop firstContract b)))
 
     abbrev slotsTested : Bool
-    slotsTested = every (map (slotOk rowKind (rowTest document01 packedLayout (contractsIn document01 packedLayout b))) (slots rowKind 1024 (drop 328 b)))
+    slotsTested = every (map (slotOk rowKind (rowTest document01 packedLayout (contractsIn document01 packedLayout b))) (slots rowKind 1024 (drop firstRow b)))
 
     abbrev orderTested : Bool
     orderTested = everyPair (inOrder comesBefore) (rowSlots document01 packedLayout b)

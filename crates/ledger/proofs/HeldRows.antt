@@ -21,6 +21,7 @@ use Rattle.model.specs.Document01.{document01}
 use Rattle.model.specs.Places.{placeOf}
 use Rattle.layout.specs.Layout.{contractsFrom, rowsFrom, rowSlots, comesBefore, wellFormed, ledgerOf}
 use Rattle.layout.specs.PackedLedger.{rowKind, packedLayout}
+use Rattle.layout.specs.Offsets.{firstRow, rowLength, ledgerLength}
 use Rattle.layout.proofs.LayoutLaws.{Tested, tested}
 use Rattle.layout.proofs.PackedLedger.{packed-size}
 use Rattle.codec.specs.Slots.{slotNumbers}
@@ -35,7 +36,7 @@ module _ (b : List ℕ) (f : wellFormed document01 packedLayout b ≡ true) wher
   tests : Tested document01 packedLayout b
   tests = tested document01 packedLayout b f
 
-  pub formed-length : length b ≡ 18760
+  pub formed-length : length b ≡ ledgerLength
   formed-length = tests .long ∙ packed-size
 
   slot-count : length (rowSlots document01 packedLayout b) ≡ 1024
@@ -49,8 +50,8 @@ module _ (b : List ℕ) (f : wellFormed document01 packedLayout b ≡ true) wher
   slot-held : (i : ℕ) → i < 1024 → getD (rowSlots document01 packedLayout b) i none ≡ slotIn rowKind (rowSlotAt b i)
   unfolding rowSlots rowsFrom contractsFrom size rowSlotAt slotNumbers
   slot-held i h =
-      let l : length b ≡ 18760 = formed-length in
-      held-at rowKind refl 1024 i 328 b h (omega arith) ∙ ap (slotIn rowKind) (sym (unpack-within b (328 + i * 18) (whole rowKind) refl (omega arith)))
+      let l : length b ≡ ledgerLength = formed-length in
+      held-at rowKind refl 1024 i firstRow b h (omega arith) ∙ ap (slotIn rowKind) (sym (unpack-within b (firstRow + i * rowLength) (whole rowKind) refl (omega arith)))
 
   pub row-held : (i : ℕ) (d : Row) → i < length rows → rowAt b i ≡ getD rows i d
   unfolding ledgerOf slotIn rowAt

@@ -11,12 +11,13 @@ use Rattle.model.specs.Calls.{Call}
 use Rattle.model.specs.Document01.{document01}
 use Rattle.layout.specs.Layout.{wellFormed}
 use Rattle.layout.specs.PackedLedger.{packedLayout}
+use Rattle.layout.specs.Offsets.{ledgerLength}
 use Rattle.layout.specs.Theorems.{packedMachine}
 use Rattle.ledger.specs.OtherLengths.{otherLengths, NumberTwoFirst, badCalls}
 use Rattle.ledger.proofs.HeldRows.{formed-length}
 use Rattle.ledger.proofs.Machine.{machine-malformed}
 
-module _ (b : List ℕ) (other : length b ≡ 18760 → ⊥) where
+module _ (b : List ℕ) (other : length b ≡ ledgerLength → ⊥) where
   malformed : wellFormed document01 packedLayout b ≡ false
   malformed = go (wellFormed document01 packedLayout b) refl
     where
@@ -32,7 +33,7 @@ module _ (b : List ℕ) (other : length b ≡ 18760 → ⊥) where
   other-length-all [] = tt
   other-length-all (c ∷ cs) = (other-length c, other-length-all cs)
 
-zeros-other : (n : ℕ) → (n ≡ 18760 → ⊥) → length {A = ℕ} (replicate n 0) ≡ 18760 → ⊥
+zeros-other : (n : ℕ) → (n ≡ ledgerLength → ⊥) → length {A = ℕ} (replicate n 0) ≡ ledgerLength → ⊥
 zeros-other n h e = h (sym (length-replicate {A = ℕ} n 0) ∙ e)
 
 pub number-two-first : NumberTwoFirst

@@ -9,13 +9,12 @@ use lib.Dec.{leb, eqb}
 use lib.ListN.{length, take, drop, getD}
 use lib.Seq.{drop-cons, drop-drop, take-add}
 use Rattle.basics.specs.Tests.{every}
-use Rattle.basics.specs.Lists.{All}
 use Rattle.basics.proofs.Tests.{eq-yes, yes-le, no-le}
 use Rattle.fields.specs.Field.{AreBytes}
 use Rattle.fields.specs.Fields.{fields}
 use Rattle.fields.proofs.Laws.{field-lt}
 use Rattle.records.specs.Pack.{size, WholeBytes, unpack, cut}
-use Rattle.records.specs.Slots.{Kind, whole, allZero, slots}
+use Rattle.records.specs.Slots.{Kind, whole, allZero, slotOk, slots}
 use Rattle.records.specs.Edits.{zeroAt}
 use Rattle.records.proofs.Slots.{length-slots}
 use Rattle.records.proofs.Pack.{unpack-within}
@@ -25,11 +24,12 @@ use Rattle.model.specs.Contracts.{Contracts}
 use Rattle.model.specs.Document01.{document01}
 use Rattle.layout.specs.Layout.{rowOk}
 use Rattle.layout.specs.PackedLedger.{rowKind}
+use Rattle.layout.specs.Offsets.{firstRow, rowLength, ledgerLength}
 use Rattle.codec.specs.Slots.{slotNumbers}
 use Rattle.ledger.specs.declared.check.RowCheck.the-variants.{Free, Bad, Good}
 use Rattle.ledger.specs.Check.{rowSlotAt, rowCheckOf, firstKey, nextKey}
 use Rattle.ledger.proofs.Access.{row-slot}
-use Rattle.ledger.proofs.Scan.{rowOf}
+use Rattle.ledger.proofs.Scan.{rowOf, test}
 
 -- ---- one slot
 
@@ -38,56 +38,62 @@ module _ (cs : Contracts) (least : ℕ) (v : List ℕ) where
   unfolding rowCheckOf
   check-free e = rw e
 
-  module _ (x : Row) (row : x ≡ rowOf v) (taken : eqb (getD v 0 0) 0 ≡ false) where
-    pub check-bad : rowOk document01 cs x ≡ false → Bad ≡ rowCheckOf cs least v
-    unfolding rowCheckOf
-    check-bad e = let f : rowOk document01 cs (rowOf v) ≡ false = ap (rowOk document01 cs) (sym row) ∙ e in rw (taken, f)
+  module _ (taken : eqb (getD v 0 0) 0 ≡ false) where
+    -- a held slot's test, by its zeros and its row
+    pub check-padding : allZero (drop (suc (length (rowKind .widths))) v) ≡ false → Bad ≡ rowCheckOf cs least v
+    unfolding rowCheckOf slotOk
+    check-padding z = rw (taken, z)
 
-    pub check-early : rowOk document01 cs x ≡ true → firstKey x < least → Bad ≡ rowCheckOf cs least v
-    unfolding rowCheckOf
-    check-early e h =
-        let f : rowOk document01 cs (rowOf v) ≡ true = ap (rowOk document01 cs) (sym row) ∙ e in
-        let g : leb least (firstKey (rowOf v)) ≡ false = ap (λ (y : Row). leb least (firstKey y)) (sym row) ∙ no-le least (firstKey x) h in
-        rw (taken, f, g)
+    module _ (zeros : allZero (drop (suc (length (rowKind .widths))) v) ≡ true) (x : Row) (row : x ≡ rowOf v) where
+      pub check-bad : rowOk document01 cs x ≡ false → Bad ≡ rowCheckOf cs least v
+      unfolding rowCheckOf slotOk
+      check-bad e = let f : rowOk document01 cs (rowOf v) ≡ false = ap (rowOk document01 cs) (sym row) ∙ e in rw (taken, zeros, f)
 
-    pub check-good : rowOk document01 cs x ≡ true → least ≤ firstKey x → Good (nextKey x) (x .amount) ≡ rowCheckOf cs least v
-    unfolding rowCheckOf
-    check-good e h =
-        let f : rowOk document01 cs (rowOf v) ≡ true = ap (rowOk document01 cs) (sym row) ∙ e in
-        let g : leb least (firstKey (rowOf v)) ≡ true = ap (λ (y : Row). leb least (firstKey y)) (sym row) ∙ yes-le least (firstKey x) h in
-        rw (taken, f, g) (ap (λ (y : Row). Good (nextKey y) (y .amount)) row)
+      pub check-early : rowOk document01 cs x ≡ true → firstKey x < least → Bad ≡ rowCheckOf cs least v
+      unfolding rowCheckOf slotOk
+      check-early e h =
+          let f : rowOk document01 cs (rowOf v) ≡ true = ap (rowOk document01 cs) (sym row) ∙ e in
+          let g : leb least (firstKey (rowOf v)) ≡ false = ap (λ (y : Row). leb least (firstKey y)) (sym row) ∙ no-le least (firstKey x) h in
+          rw (taken, zeros, f, g)
+
+      pub check-good : rowOk document01 cs x ≡ true → least ≤ firstKey x → Good (nextKey x) (x .amount) ≡ rowCheckOf cs least v
+      unfolding rowCheckOf slotOk
+      check-good e h =
+          let f : rowOk document01 cs (rowOf v) ≡ true = ap (rowOk document01 cs) (sym row) ∙ e in
+          let g : leb least (firstKey (rowOf v)) ≡ true = ap (λ (y : Row). leb least (firstKey y)) (sym row) ∙ yes-le least (firstKey x) h in
+          rw (taken, zeros, f, g) (ap (λ (y : Row). Good (nextKey y) (y .amount)) row)
 
 pub record GoodRow (cs : Contracts) (least : ℕ) (v : List ℕ) (next amount : ℕ) : Type 0 where
   pub taken : eqb (getD v 0 0) 0 ≡ false
-  pub passes : rowOk document01 cs (rowOf v) && leb least (firstKey (rowOf v)) ≡ true
+  pub passes : test cs v && leb least (firstKey (rowOf v)) ≡ true
   pub next-is : next ≡ nextKey (rowOf v)
   pub amount-is : amount ≡ rowOf v .amount
 
 module _ (cs : Contracts) (least : ℕ) (v : List ℕ) where
   pub free-row : Free ≡ rowCheckOf cs least v → getD v 0 0 ≡ 0
   unfolding rowCheckOf
-  free-row e = go (eqb (getD v 0 0) 0) refl (rowOk document01 cs (rowOf v) && leb least (firstKey (rowOf v))) e
+  free-row e = go (eqb (getD v 0 0) 0) refl (test cs v && leb least (firstKey (rowOf v))) e
     where
       go : (f : Bool) → eqb (getD v 0 0) 0 ≡ f → (p : Bool) → Free ≡ cond f Free (cond p (Good (nextKey (rowOf v)) (rowOf v .amount)) Bad) → getD v 0 0 ≡ 0
       go true z p h = eq-yes (getD v 0 0) 0 z
       go false z true h = let n : _≡_ {A = ℕ} 0 1 = cc in let y : ⊥ = omega arith in absurd y
       go false z false h = let n : _≡_ {A = ℕ} 0 1 = cc in let y : ⊥ = omega arith in absurd y
 
-  pub bad-row : Bad ≡ rowCheckOf cs least v → (eqb (getD v 0 0) 0 ≡ false) × (rowOk document01 cs (rowOf v) && leb least (firstKey (rowOf v)) ≡ false)
+  pub bad-row : Bad ≡ rowCheckOf cs least v → (eqb (getD v 0 0) 0 ≡ false) × (test cs v && leb least (firstKey (rowOf v)) ≡ false)
   unfolding rowCheckOf
-  bad-row e = go (eqb (getD v 0 0) 0) refl (rowOk document01 cs (rowOf v) && leb least (firstKey (rowOf v))) refl e
+  bad-row e = go (eqb (getD v 0 0) 0) refl (test cs v && leb least (firstKey (rowOf v))) refl e
     where
-      go : (f : Bool) → eqb (getD v 0 0) 0 ≡ f → (p : Bool) → rowOk document01 cs (rowOf v) && leb least (firstKey (rowOf v)) ≡ p
-          → Bad ≡ cond f Free (cond p (Good (nextKey (rowOf v)) (rowOf v .amount)) Bad) → (eqb (getD v 0 0) 0 ≡ false) × (rowOk document01 cs (rowOf v) && leb least (firstKey (rowOf v)) ≡ false)
+      go : (f : Bool) → eqb (getD v 0 0) 0 ≡ f → (p : Bool) → test cs v && leb least (firstKey (rowOf v)) ≡ p
+          → Bad ≡ cond f Free (cond p (Good (nextKey (rowOf v)) (rowOf v .amount)) Bad) → (eqb (getD v 0 0) 0 ≡ false) × (test cs v && leb least (firstKey (rowOf v)) ≡ false)
       go true z p y h = let n : _≡_ {A = ℕ} 0 1 = cc in let x : ⊥ = omega arith in absurd x
       go false z true y h = let n : _≡_ {A = ℕ} 0 1 = cc in let x : ⊥ = omega arith in absurd x
       go false z false y h = (z, y)
 
   pub good-row : (next amount : ℕ) → Good next amount ≡ rowCheckOf cs least v → GoodRow cs least v next amount
   unfolding rowCheckOf
-  good-row next amount e = go (eqb (getD v 0 0) 0) refl (rowOk document01 cs (rowOf v) && leb least (firstKey (rowOf v))) refl e
+  good-row next amount e = go (eqb (getD v 0 0) 0) refl (test cs v && leb least (firstKey (rowOf v))) refl e
     where
-      go : (f : Bool) → eqb (getD v 0 0) 0 ≡ f → (p : Bool) → rowOk document01 cs (rowOf v) && leb least (firstKey (rowOf v)) ≡ p
+      go : (f : Bool) → eqb (getD v 0 0) 0 ≡ f → (p : Bool) → test cs v && leb least (firstKey (rowOf v)) ≡ p
           → Good next amount ≡ cond f Free (cond p (Good (nextKey (rowOf v)) (rowOf v .amount)) Bad) → GoodRow cs least v next amount
       go true z p y h = let n : _≡_ {A = ℕ} 0 1 = cc in let x : ⊥ = omega arith in absurd x
       go false z true y h = record { taken = z; passes = y; next-is = cc; amount-is = cc }
@@ -96,40 +102,29 @@ module _ (cs : Contracts) (least : ℕ) (v : List ℕ) where
 -- the numbers of a row's slot are below their widths
 module _ (b : List ℕ) (i : ℕ) where
   abbrev slot : List ℕ
-  slot = take 18 (drop (328 + i * 18) b)
+  slot = take rowLength (drop (firstRow + i * rowLength) b)
 
   pub row-amount-low : rowOf (rowSlotAt b i) .amount < 2 ^ 50
   unfolding rowSlotAt slotNumbers unpack fields
-  row-amount-low = field-lt slot 94 50
+  row-amount-low = field-lt slot _ _
 
   pub row-contract-low : rowOf (rowSlotAt b i) .bill .contract < 64
   unfolding rowSlotAt slotNumbers unpack fields
-  row-contract-low = field-lt slot 1 6
+  row-contract-low = field-lt slot _ _
 
   pub row-days-low : (rowOf (rowSlotAt b i) .bill .first < 1024) × (rowOf (rowSlotAt b i) .bill .last < 1024)
   unfolding rowSlotAt slotNumbers unpack fields
-  row-days-low = (field-lt slot 7 10, field-lt slot 17 10)
+  row-days-low = (field-lt slot _ _, field-lt slot _ _)
 
 -- ---- the slots from a place on
 
 abbrev pub rowNumbers : List ℕ → List (List ℕ)
-rowNumbers b = slots rowKind 1024 (drop 328 b)
+rowNumbers b = slots rowKind 1024 (drop firstRow b)
 
-pub rows-next : (b : List ℕ) (i : ℕ) → length b ≡ 18760 → i < 1024 → drop i (rowNumbers b) ≡ rowSlotAt b i ∷ drop (i + 1) (rowNumbers b)
+pub rows-next : (b : List ℕ) (i : ℕ) → length b ≡ ledgerLength → i < 1024 → drop i (rowNumbers b) ≡ rowSlotAt b i ∷ drop (i + 1) (rowNumbers b)
 rows-next b i l h =
-    drop-cons (rowNumbers b) i [] (omega (arith, length-slots rowKind 1024 (drop 328 b)))
+    drop-cons (rowNumbers b) i [] (omega (arith, length-slots rowKind 1024 (drop firstRow b)))
     ∙ ap₂ (λ (v : List ℕ) (n : ℕ). v ∷ drop n (rowNumbers b)) (row-slot b i l h) (sym (add-one i))
-
--- a record's fields are as many as its widths
-length-fields : (ws b : List ℕ) (at : ℕ) → length (fields b at ws) ≡ length ws
-unfolding fields
-length-fields [] b at = refl
-length-fields (w ∷ ws) b at = ap suc (length-fields ws b (at + w))
-
-pub eight-each : (n : ℕ) (b : List ℕ) → All (λ v. length v ≡ 8) (slots rowKind n b)
-unfolding slots cut unpack
-eight-each zero b = tt
-eight-each (suc n) b = (length-fields (whole rowKind) (take (size (whole rowKind)) b) 0, eight-each n (drop (size (whole rowKind)) b))
 
 -- zero bytes are slots of zeros
 zeroAt-none : (b : List ℕ) (f : ℕ) → zeroAt f 0 b ≡ true
@@ -173,8 +168,8 @@ module _ {A : Type 0} (k : Kind A) (e : WholeBytes (whole k)) where
       ∙ drop-slots i n m (f + size (whole k)) b (omega arith)
       ∙ ap (λ (p : ℕ). map (unpack (whole k)) (cut (size (whole k)) m (drop p b))) g
 
-pub zero-rest : (b : List ℕ) (i : ℕ) → AreBytes b → length b ≡ 18760 → i < 1024 → zeroAt (328 + i * 18) (18432 - i * 18) b ≡ every (map allZero (drop i (rowNumbers b)))
+pub zero-rest : (b : List ℕ) (i : ℕ) → AreBytes b → length b ≡ ledgerLength → i < 1024 → zeroAt (firstRow + i * rowLength) (ledgerLength - (firstRow + i * rowLength)) b ≡ every (map allZero (drop i (rowNumbers b)))
 unfolding size
 zero-rest b i h l m =
-    ap (λ (k : ℕ). zeroAt (328 + i * 18) k b) (omega arith) ∙ zero-slots rowKind refl (1024 - i) (328 + i * 18) b h (omega arith)
-    ∙ ap (λ (vs : List (List ℕ)). every (map allZero vs)) (sym (drop-slots rowKind refl i 1024 (1024 - i) 328 b (omega arith)))
+    ap (λ (k : ℕ). zeroAt (firstRow + i * rowLength) k b) (omega arith) ∙ zero-slots rowKind refl (1024 - i) (firstRow + i * rowLength) b h (omega arith)
+    ∙ ap (λ (vs : List (List ℕ)). every (map allZero vs)) (sym (drop-slots rowKind refl i 1024 (1024 - i) firstRow b (omega arith)))

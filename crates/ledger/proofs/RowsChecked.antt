@@ -18,11 +18,12 @@ use Rattle.model.specs.Contracts.{Contracts}
 use Rattle.model.specs.Document01.{document01}
 use Rattle.layout.specs.Layout.{contractsFrom, rowsFrom, contractsIn, rowSlots}
 use Rattle.layout.specs.PackedLedger.{rowKind, packedLayout}
+use Rattle.layout.specs.Offsets.{firstRow, rowLength, ledgerLength}
 use Rattle.ledger.specs.declared.check.Checked.{Checked}
 use Rattle.ledger.specs.declared.check.Checked.the-variants.{Malformed, WellFormed}
 use Rattle.ledger.specs.declared.check.RowCheck.the-variants.{Free, Bad, Good}
 use Rattle.ledger.specs.Check.{rowSlotAt, rowCheckOf, rowsCheckedOf}
-use Rattle.ledger.proofs.RowChecks.{free-row, bad-row, good-row, row-amount-low, rowNumbers, rows-next, eight-each, zero-rest}
+use Rattle.ledger.proofs.RowChecks.{free-row, bad-row, good-row, row-amount-low, rowNumbers, rows-next, zero-rest}
 use Rattle.ledger.proofs.Scan.{scan-exactly, found, found-end, found-free, found-trailing, found-bad, found-good}
 
 module _ (b : List ℕ) where
@@ -36,7 +37,7 @@ module _ (b : List ℕ) where
   pub all-to-find : ToFind 0 0 0
   unfolding found rowsCheckedOf rowSlots arrayIn rowsFrom contractsFrom size
   all-to-find =
-      ap₂ (λ (p : Bool) (c : Checked). cond p c Malformed) (scan-exactly cs (rowNumbers b) (eight-each 1024 (drop 328 b)))
+      ap₂ (λ (p : Bool) (c : Checked). cond p c Malformed) (scan-exactly cs (rowNumbers b))
       (ap₂ WellFormed (plus (length (held (map (slotIn rowKind) (rowNumbers b))))) (plus (total (λ x. x .amount) (held (map (slotIn rowKind) (rowNumbers b))))))
     where
       plus : (n : ℕ) → 0 + n ≡ n
@@ -45,11 +46,11 @@ module _ (b : List ℕ) where
   module _ (i least due : ℕ) (t : ToFind i least due) where
     pub all-found : i ≡ 1024 → WellFormed 1024 due ≡ rowsCheckedOf b
     all-found e =
-        let n : 1024 ≡ length (rowNumbers b) = sym (length-slots rowKind 1024 (drop 328 b)) in
+        let n : 1024 ≡ length (rowNumbers b) = sym (length-slots rowKind 1024 (drop firstRow b)) in
         let z : drop i (rowNumbers b) ≡ [] = ap (λ (k : ℕ). drop k (rowNumbers b)) (e ∙ n) ∙ drop-length (rowNumbers b) in
         ap (λ (k : ℕ). WellFormed k due) (sym e) ∙ sym (found-end cs least i due) ∙ ap (found cs least i due) (sym z) ∙ t
 
-    module _ (bytes : AreBytes b) (l : length b ≡ 18760) (h : i < 1024) where
+    module _ (bytes : AreBytes b) (l : length b ≡ ledgerLength) (h : i < 1024) where
       abbrev v : List ℕ
       v = rowSlotAt b i
 
@@ -59,13 +60,13 @@ module _ (b : List ℕ) where
       here : found cs least i due (v ∷ vs) ≡ rowsCheckedOf b
       here = ap (found cs least i due) (sym (rows-next b i l h)) ∙ t
 
-      zeros : zeroAt (328 + i * 18) (18432 - i * 18) b ≡ every (map allZero (v ∷ vs))
+      zeros : zeroAt (firstRow + i * rowLength) (ledgerLength - (firstRow + i * rowLength)) b ≡ every (map allZero (v ∷ vs))
       zeros = zero-rest b i bytes l h ∙ ap (λ (ws : List (List ℕ)). every (map allZero ws)) (rows-next b i l h)
 
-      pub rows-end : Free ≡ rowCheckOf cs least v → zeroAt (328 + i * 18) (18432 - i * 18) b ≡ true → WellFormed i due ≡ rowsCheckedOf b
+      pub rows-end : Free ≡ rowCheckOf cs least v → zeroAt (firstRow + i * rowLength) (ledgerLength - (firstRow + i * rowLength)) b ≡ true → WellFormed i due ≡ rowsCheckedOf b
       rows-end f z = sym (found-free cs least i due v vs (free-row cs least v f) (sym zeros ∙ z)) ∙ here
 
-      pub rows-trailing : Free ≡ rowCheckOf cs least v → zeroAt (328 + i * 18) (18432 - i * 18) b ≡ false → Malformed ≡ rowsCheckedOf b
+      pub rows-trailing : Free ≡ rowCheckOf cs least v → zeroAt (firstRow + i * rowLength) (ledgerLength - (firstRow + i * rowLength)) b ≡ false → Malformed ≡ rowsCheckedOf b
       rows-trailing f z = sym (found-trailing cs least i due v vs (free-row cs least v f) (sym zeros ∙ z)) ∙ here
 
       pub row-malformed : Bad ≡ rowCheckOf cs least v → Malformed ≡ rowsCheckedOf b

@@ -9,7 +9,7 @@ use Rattle.rates.specs.declared.Bill.{Bill}
 use Rattle.model.specs.declared.Row.{Row}
 use Rattle.model.specs.Calls.{named, sharing}
 use Rattle.model.specs.Document01.{document01}
-use Rattle.model.specs.Ledger.{sortsAfter}
+use Rattle.model.specs.Ledger.{comesAfter}
 use Rattle.layout.specs.Layout.{wellFormed, ledgerOf}
 use Rattle.layout.specs.PackedLedger.{rowKind, packedLayout}
 use Rattle.ledger.specs.Check.{rowSlotAt}
@@ -23,7 +23,7 @@ rowAt b i = rowKind .of (recordFields rowKind (rowSlotAt b i))
 -- what each test asks of a bill
 abbrev pub rowPasses : RowTest → Bill → Bool
 rowPasses (Named c first) b = named c first b
-rowPasses (After c first) b = sortsAfter b (record { contract = c; first = first; last = 0; kwh = 0; reference = 0; supply = 0 })
+rowPasses (After c first) b = comesAfter c first b
 rowPasses (Sharing c first last) b = sharing c first last b
 rowPasses (SharingOther c first last) b = sharing c first last b && not (named c first b)
 

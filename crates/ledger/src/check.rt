@@ -1,6 +1,13 @@
 // The well-formed check: one pass over the contracts and the rows, each row unpacked once, with what the row before it leaves free.
 use crate::contracts::contract_at;
 use crate::contracts::is_open;
+use layout::CONTRACT_COUNT;
+use layout::CONTRACT_LENGTH;
+use layout::FIRST_CONTRACT;
+use layout::FIRST_ROW;
+use layout::LEDGER_LENGTH;
+use layout::ROW_COUNT;
+use layout::ROW_LENGTH;
 use model::Row;
 ghost use mathlib.Core.Path.{_≡_};
 ghost use mathlib.Core.Bool.{_&&_};
@@ -10,8 +17,9 @@ ghost use lib.ListN.{length, drop};
 ghost use Rattle.basics.specs.Tests.{every};
 ghost use Rattle.records.specs.Slots.{slotOk, slots};
 ghost use Rattle.model.specs.Document01.{document01};
-ghost use Rattle.layout.specs.Layout.{contractsIn, contractTest, rowOk};
+ghost use Rattle.layout.specs.Layout.{rowCount, contractsIn, contractTest, rowOk};
 ghost use Rattle.layout.specs.PackedLedger.{contractKind, rowKind, packedLayout};
+ghost use Rattle.layout.specs.Offsets.{firstContract, contractCount, ledgerLength};
 ghost use Rattle.ledger.specs.Check.{checkedOf, headerOk, rowSlotAt, rowCheckOf, rowsCheckedOf};
 
 // What the check finds: how many rows are held, and the sum of their amounts.
@@ -30,7 +38,7 @@ enum RowCheck {
 
 // Claims at most 1,000, and no pence where no claim was made.
 fn header_ok(b: &[u8]) -> bool
-    requires { ⌜ 8 ≤ length (now b) ⌝ }
+    requires { ⌜ firstContract ≤ length (now b) ⌝ }
     ensures { λ r. ⌜ r ≡ headerOk (now (b .entry)) ⌝ }
 {
     let claims = codec::header::claims(b);
@@ -45,14 +53,14 @@ fn header_ok(b: &[u8]) -> bool
 
 // Each contract's slot is as it must be.
 fn contracts_ok(b: &[u8]) -> bool
-    requires { ⌜ length (now b) ≡ 18760 ⌝ }
-    ensures { λ r. ⌜ r ≡ every (map (slotOk contractKind (contractTest document01 packedLayout (now (b .entry)))) (slots contractKind 64 (drop 8 (now (b .entry))))) ⌝ }
+    requires { ⌜ length (now b) ≡ ledgerLength ⌝ }
+    ensures { λ r. ⌜ r ≡ every (map (slotOk contractKind (contractTest document01 packedLayout (now (b .entry)))) (slots contractKind contractCount (drop firstContract (now (b .entry))))) ⌝ }
 {
     let territory = codec::header::territory(b);
     let mut c: usize = 0;
-    while c < 64 {
-        let at = 8 + c * 5;
-        if !codec::contracts::slot_ok(&b[at..at + 5], territory) {
+    while c < CONTRACT_COUNT {
+        let at = FIRST_CONTRACT + c * CONTRACT_LENGTH;
+        if !codec::contracts::slot_ok(&b[at..at + CONTRACT_LENGTH], territory) {
             return false;
         }
         c += 1;
@@ -62,7 +70,7 @@ fn contracts_ok(b: &[u8]) -> bool
 
 // A row keeps the ranges under its open contract, and its amount is its part of due.
 fn row_ok(b: &[u8], row: Row) -> bool
-    requires { ⌜ (length (now b) ≡ 18760) × (row .bill .contract < 64) ⌝ }
+    requires { ⌜ (length (now b) ≡ ledgerLength) × (row .bill .contract < contractCount) ⌝ }
     ensures { λ r. ⌜ r ≡ rowOk document01 (contractsIn document01 packedLayout (now (b .entry))) row ⌝ }
 {
     let bill = row.bill;
@@ -82,13 +90,16 @@ fn row_ok(b: &[u8], row: Row) -> bool
 
 // The check of row i, whose contract and first day, as one number, are to be `least` or more.
 fn check_row(b: &[u8], i: usize, least: u32) -> RowCheck
-    requires { ⌜ (length (now b) ≡ 18760) × (i < 1024) ⌝ }
+    requires { ⌜ (length (now b) ≡ ledgerLength) × (i < rowCount) ⌝ }
     ensures { λ r. ⌜ r ≡ rowCheckOf (contractsIn document01 packedLayout (now (b .entry))) least (rowSlotAt (now (b .entry)) i) ⌝ }
 {
-    let at = 328 + i * 18;
-    let slot = &b[at..at + 18];
+    let at = FIRST_ROW + i * ROW_LENGTH;
+    let slot = &b[at..at + ROW_LENGTH];
     if !codec::rows::is_held(slot) {
         return RowCheck::Free;
+    }
+    if !codec::rows::padding_zero(slot) {
+        return RowCheck::Bad;
     }
     let row = codec::rows::unpack_row(slot);
     if !row_ok(b, row) {
@@ -106,17 +117,18 @@ fn check_row(b: &[u8], i: usize, least: u32) -> RowCheck
 
 // The check of all rows.
 fn check_rows(b: &[u8]) -> Checked
-    requires { ⌜ length (now b) ≡ 18760 ⌝ }
+    requires { ⌜ length (now b) ≡ ledgerLength ⌝ }
     ensures { λ r. ⌜ r ≡ rowsCheckedOf (now (b .entry)) ⌝ }
 {
     let mut i: usize = 0;
     let mut least: u32 = 0;
     let mut due: u64 = 0;
-    while i < 1024 {
+    while i < ROW_COUNT {
         let found = check_row(b, i, least);
         match found {
             RowCheck::Free => {
-                if records::is_zero(b, 328 + i * 18, 18432 - i * 18) {
+                let at = FIRST_ROW + i * ROW_LENGTH;
+                if records::is_zero(b, at, LEDGER_LENGTH - at) {
                     return Checked::WellFormed {
                         rows: i as u32,
                         due,
@@ -141,7 +153,7 @@ fn check_rows(b: &[u8]) -> Checked
 pub fn check(b: &[u8]) -> Checked
     ensures { λ r. ⌜ r ≡ checkedOf (now (b .entry)) ⌝ }
 {
-    if b.len() != 18760 {
+    if b.len() != LEDGER_LENGTH {
         return Checked::Malformed;
     }
     if !header_ok(b) {

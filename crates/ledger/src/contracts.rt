@@ -1,4 +1,6 @@
 // Open contracts by their number.
+use layout::CONTRACT_LENGTH;
+use layout::FIRST_CONTRACT;
 use rates::Contract;
 ghost use mathlib.Core.Path.{_≡_};
 ghost use mathlib.Core.Bool.{true};
@@ -8,21 +10,22 @@ ghost use Rattle.model.specs.Contracts.{contractAt, isOpen};
 ghost use Rattle.model.specs.Document01.{document01};
 ghost use Rattle.layout.specs.Layout.{contractsIn};
 ghost use Rattle.layout.specs.PackedLedger.{packedLayout};
+ghost use Rattle.layout.specs.Offsets.{contractCount, ledgerLength};
 
 // Whether the contract with that number is open.
 pub fn is_open(b: &[u8], c: usize) -> bool
-    requires { ⌜ (length (now b) ≡ 18760) × (c < 64) ⌝ }
+    requires { ⌜ (length (now b) ≡ ledgerLength) × (c < contractCount) ⌝ }
     ensures { λ r. ⌜ r ≡ isOpen (contractsIn document01 packedLayout (now (b .entry))) c ⌝ }
 {
-    let at = 8 + c * 5;
-    codec::contracts::is_open(&b[at..at + 5])
+    let at = FIRST_CONTRACT + c * CONTRACT_LENGTH;
+    codec::contracts::is_open(&b[at..at + CONTRACT_LENGTH])
 }
 
 // The open contract with that number.
 pub fn contract_at(b: &[u8], c: usize) -> Contract
-    requires { ⌜ (length (now b) ≡ 18760) × ((c < 64) × (isOpen (contractsIn document01 packedLayout (now b)) c ≡ true)) ⌝ }
+    requires { ⌜ (length (now b) ≡ ledgerLength) × ((c < contractCount) × (isOpen (contractsIn document01 packedLayout (now b)) c ≡ true)) ⌝ }
     ensures { λ r. ⌜ r ≡ contractAt (contractsIn document01 packedLayout (now (b .entry))) c ⌝ }
 {
-    let at = 8 + c * 5;
-    codec::contracts::unpack_contract(&b[at..at + 5])
+    let at = FIRST_CONTRACT + c * CONTRACT_LENGTH;
+    codec::contracts::unpack_contract(&b[at..at + CONTRACT_LENGTH])
 }

@@ -1,4 +1,6 @@
 // Rows by their place, and the first row that passes a test.
+use layout::FIRST_ROW;
+use layout::ROW_LENGTH;
 use model::Row;
 use rates::Bill;
 ghost use mathlib.Core.Path.{_≡_};
@@ -7,8 +9,9 @@ ghost use Prim.Native.Nat.{_<_};
 ghost use lib.ListN.{length};
 ghost use Rattle.model.specs.Document01.{document01};
 ghost use Rattle.model.specs.Places.{placeOf};
-ghost use Rattle.layout.specs.Layout.{wellFormed, ledgerOf};
+ghost use Rattle.layout.specs.Layout.{rowCount, wellFormed, ledgerOf};
 ghost use Rattle.layout.specs.PackedLedger.{packedLayout};
+ghost use Rattle.layout.specs.Offsets.{ledgerLength};
 ghost use Rattle.ledger.specs.Rows.{rowAt, rowPasses, Searched};
 
 // A test of rows.
@@ -100,11 +103,11 @@ fn passes(test: RowTest, bill: Bill) -> bool
 
 // The row in slot i.
 pub fn row_at(b: &[u8], i: usize) -> Row
-    requires { ⌜ (length (now b) ≡ 18760) × (i < 1024) ⌝ }
+    requires { ⌜ (length (now b) ≡ ledgerLength) × (i < rowCount) ⌝ }
     ensures { λ r. ⌜ r ≡ rowAt (now (b .entry)) i ⌝ }
 {
-    let at = 328 + i * 18;
-    codec::rows::unpack_row(&b[at..at + 18])
+    let at = FIRST_ROW + i * ROW_LENGTH;
+    codec::rows::unpack_row(&b[at..at + ROW_LENGTH])
 }
 
 // The place of the first held row that passes the test, or the number of rows where none does.

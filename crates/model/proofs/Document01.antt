@@ -5,7 +5,8 @@ use Prim.Native.Nat.{ℕ, _≤_}
 use native.Mathlib.Omega.{arith}
 use lib.Dec.{T}
 use lib.ListN.{getD}
-use Rattle.basics.proofs.Tests.{not-no, no-not, not-yes, lt-no, lt-yes, le-no, le-yes, yes-le, every-at, every-all}
+use Rattle.basics.specs.Lists.{All}
+use Rattle.basics.proofs.Tests.{not-no, no-not, not-yes, lt-no, lt-yes, le-no, le-yes, yes-le, every-at, every-all, all-every}
 use Rattle.rates.specs.declared.Contract.{Contract}
 use Rattle.rates.specs.declared.Bill.{Bill}
 use Rattle.rates.proofs.WithinCaps.{amount-capped, amount-low}
@@ -49,6 +50,10 @@ contract-tests t fuel kind fix entry class effective e f g h =
 pub bill-test : (k : Contract) (b : Bill) → billOk k b ≡ true → (i : ℕ) → getD (billTests k b) i true ≡ true
 unfolding billOk
 bill-test k b e i = every-at (billTests k b) e i
+
+pub bill-tests : (k : Contract) (b : Bill) → billOk k b ≡ true → All (λ t. t ≡ true) (billTests k b)
+unfolding billOk
+bill-tests k b e = all-every (billTests k b) e
 
 -- an opened contract keeps the ranges, and so does one with another certificate
 opening-ok : (t fuel kind fix entry : ℕ) → badKind t fuel kind ≡ false → badDays kind fix entry ≡ false → contractOk t (opening fuel kind fix entry) ≡ true
@@ -98,12 +103,12 @@ module _ (v : View) (q : BillRequest) where
       record {
         number = omega arith;
         isOpened = not-no _ e5;
-        ranges = λ g. every-all (billTests k (requestedBill (v .contracts) q)) (
+        ranges = λ g. rw (
           no-not _ e7,
-          (
-            yes-le (q .kwh) 100000000 (kwh-low k q e3 e8 e11),
-            (yes-le (q .supply) 999999 (supply-low k q e3 e8 e11), (yes-le _ 999999 (price-low k q e3 e8 e11), (price-there k q e3 e8 e11, tt))),
-          ),
+          yes-le (q .kwh) 100000000 (kwh-low k q e3 e8 e11),
+          yes-le (q .supply) 999999 (supply-low k q e3 e8 e11),
+          yes-le _ 999999 (price-low k q e3 e8 e11),
+          price-there k q e3 e8 e11,
         );
       }
 

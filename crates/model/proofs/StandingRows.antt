@@ -1,50 +1,48 @@
 -- From sums back to places: each standing bill's row stands in the ledger. Assumes nothing.
-use mathlib.Core.Path.{_≡_, refl}
-use mathlib.Core.Bool.{Bool, true, false, cond, _&&_}
+use mathlib.Core.Path.{_≡_, refl, ap, ap₂}
+use mathlib.Core.Bool.{Bool, true, false, cond, _&&_, false≢true}
 use mathlib.Core.List.{List, [], _∷_, List·Memᴰ, List·Memᴰ·head, List·Memᴰ·tail}
 use Prim.Native.Nat.{ℕ, _+_, _<_}
 use native.Mathlib.Omega.{arith}
 use lib.Dec.{eqb}
 use Rattle.basics.specs.Lists.{count}
-use Rattle.basics.proofs.Tests.{and-left, and-right, eq-yes, yes-eq}
+use Rattle.basics.proofs.Tests.{and-left, and-right, and-yes, eq-yes, yes-eq}
 use Rattle.rates.specs.declared.Bill.{Bill}
 use Rattle.model.specs.declared.Row.{Row}
 use Rattle.model.specs.Rules.{Rules, partOfDue}
 use Rattle.model.specs.Ledger.{Ledger, priced}
+use Rattle.model.specs.RowNumbers.{numbersOfRow, rowOfNumbers}
 use Rattle.model.specs.Sheet.{Sheet}
 use Rattle.model.proofs.Relation.{Related, rowOf}
 
-pub equal : Row → Row → Bool
-equal x y = eqb (x .bill .contract) (y .bill .contract) && (eqb (x .bill .first) (y .bill .first) && (eqb (x .bill .last) (y .bill .last)
-    && (eqb (x .bill .kwh) (y .bill .kwh) && (eqb (x .bill .reference) (y .bill .reference) && (eqb (x .bill .supply) (y .bill .supply) && eqb (x .amount) (y .amount))))))
+-- two lists of the same numbers
+abbrev same : List ℕ → List ℕ → Bool
+same [] [] = true
+same [] (n ∷ ns) = false
+same (m ∷ ms) [] = false
+same (m ∷ ms) (n ∷ ns) = eqb m n && same ms ns
 
-itself : (n : ℕ) → eqb n n ≡ true
-itself n = yes-eq n n refl
+same-refl : (ns : List ℕ) → same ns ns ≡ true
+same-refl [] = refl
+same-refl (n ∷ ns) = and-yes (eqb n n) _ (yes-eq n n refl) (same-refl ns)
+
+same-path : (ms ns : List ℕ) → same ms ns ≡ true → ms ≡ ns
+same-path [] [] e = refl
+same-path [] (n ∷ ns) e = absurd (false≢true e)
+same-path (m ∷ ms) [] e = absurd (false≢true e)
+same-path (m ∷ ms) (n ∷ ns) e = ap₂ _∷_ (eq-yes m n (and-left (eqb m n) _ e)) (same-path ms ns (and-right (eqb m n) _ e))
+
+-- two rows are equal where their numbers are
+pub equal : Row → Row → Bool
+equal x y = same (numbersOfRow x) (numbersOfRow y)
 
 pub equal-refl : (x : Row) → equal x x ≡ true
 unfolding equal
-equal-refl x = simp itself
+equal-refl x = same-refl (numbersOfRow x)
 
 pub equal-path : (x y : Row) → equal x y ≡ true → x ≡ y
 unfolding equal
-equal-path x y e0 =
-    let e1 = and-right (eqb (x .bill .contract) (y .bill .contract)) _ e0 in
-    let e2 = and-right (eqb (x .bill .first) (y .bill .first)) _ e1 in
-    let e3 = and-right (eqb (x .bill .last) (y .bill .last)) _ e2 in
-    let e4 = and-right (eqb (x .bill .kwh) (y .bill .kwh)) _ e3 in
-    let e5 = and-right (eqb (x .bill .reference) (y .bill .reference)) _ e4 in
-    let e6 = and-right (eqb (x .bill .supply) (y .bill .supply)) _ e5 in
-    λ i. record {
-      bill = record {
-        contract = eq-yes (x .bill .contract) (y .bill .contract) (and-left _ _ e0) i;
-        first = eq-yes (x .bill .first) (y .bill .first) (and-left _ _ e1) i;
-        last = eq-yes (x .bill .last) (y .bill .last) (and-left _ _ e2) i;
-        kwh = eq-yes (x .bill .kwh) (y .bill .kwh) (and-left _ _ e3) i;
-        reference = eq-yes (x .bill .reference) (y .bill .reference) (and-left _ _ e4) i;
-        supply = eq-yes (x .bill .supply) (y .bill .supply) (and-left _ _ e5) i;
-      };
-      amount = eq-yes (x .amount) (y .amount) e6 i;
-    }
+equal-path x y e = ap rowOfNumbers (same-path (numbersOfRow x) (numbersOfRow y) e)
 
 module _ {A : Type 0} (p : A → Bool) where
   pub counted : (a : A) (xs : List A) → List·Memᴰ a xs → p a ≡ true → 0 < count p xs

@@ -33,8 +33,11 @@ view l = record { territory = l .territory; contracts = l .contracts; held = λ 
 -- ---- rows
 
 -- ascending by contract then first day
+abbrev pub comesAfter : (contract first : ℕ) → Bill → Bool
+comesAfter c first x = ltb c (x .contract) || (eqb c (x .contract) && ltb first (x .first))
+
 unfoldable pub sortsAfter : Bill → Bill → Bool
-sortsAfter x b = ltb (b .contract) (x .contract) || (eqb (b .contract) (x .contract) && ltb (b .first) (x .first))
+sortsAfter x b = comesAfter (b .contract) (b .first) x
 
 -- the place of a new row is the first held row that sorts after it, or the end of the held rows
 abbrev pub insert : Row → List Row → List Row

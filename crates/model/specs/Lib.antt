@@ -6,6 +6,7 @@ pub mod Calls
 pub mod Rules
 pub mod Document01
 pub mod Ledger
+pub mod RowNumbers
 pub mod Places
 pub mod Sheet
 pub mod History

@@ -29,8 +29,8 @@ use Rattle.model.specs.Ledger.{Ledger, view, answer, outcome as ledgerOutcome, 
 use Rattle.model.specs.Document01.{document01, tests}
 use Rattle.layout.specs.Layout.{wellFormed, ledgerOf}
 use Rattle.layout.specs.PackedLedger.{packedLayout}
+use Rattle.layout.specs.Offsets.{ledgerLength}
 use Rattle.layout.specs.Theorems.{packedMachine}
-use Rattle.edits.specs.Offsets.{ledgerLength}
 use Rattle.contract_calls.specs.Start.{startRefusal, doneUnlessRefused, startAnswer}
 use Rattle.session.specs.AnswerLines.{lineOf, dayLine, dateLine}
 use Rattle.session.specs.Replies.{State, request, badPrice, priceLine, outcome, reply}

@@ -18,9 +18,9 @@ use Rattle.model.specs.Document01Balance.{BalancedByRates}
 use Rattle.model.proofs.Refusals.{clear}
 use Rattle.layout.specs.Layout.{bytesOf}
 use Rattle.layout.specs.PackedLedger.{packedLayout}
+use Rattle.layout.specs.Offsets.{ledgerLength}
 use Rattle.layout.specs.Theorems.{packedMachine}
 use Rattle.layout.proofs.PackedLedger.{demand-three}
-use Rattle.edits.specs.Offsets.{ledgerLength}
 use Rattle.contract_calls.specs.Start.{startRefusal, doneUnlessRefused, startAnswer, startBytes}
 use Rattle.session.specs.AnswerLines.{lineOf}
 use Rattle.session.specs.Replies.{State, holding, initial, onLedger, request, badPrice, priceLine, bookWith, outcome, reply, next}

@@ -2,6 +2,7 @@
 mod answers;
 mod replies;
 
+use layout::LEDGER_LENGTH;
 use replies::UNREADABLE;
 use replies::reply;
 use text::pieces::find;
@@ -21,9 +22,6 @@ pub const MOST_INPUT: usize = 65536;
 
 // No output is longer: 11 bytes for each byte read.
 pub const MOST_OUTPUT: usize = 11 * MOST_INPUT;
-
-// The length of the ledger in bytes.
-const LEDGER_LENGTH: usize = 18760;
 
 // The number of the book's entries.
 const BOOK_LENGTH: usize = 1740;

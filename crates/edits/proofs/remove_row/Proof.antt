@@ -3,7 +3,7 @@ use Prim.Native.Nat.{_+_, _*_}
 use native.Mathlib.Omega.{arith}
 use Rattle.records.specs.Edits.{removeAt}
 use Rattle.records.proofs.Edits.{part-lent}
-use Rattle.edits.specs.Offsets.{firstRow, rowLength}
+use Rattle.layout.specs.Offsets.{firstRow, rowLength}
 use borrow.Author.Needs.{needs}
 use Rattle.edits.proofs.remove_row.Statement.{statement}
 use Rattle.edits.proofs.remove_row.Tie as tie

@@ -1,8 +1,8 @@
 -- `replace_row` packs the row into the slot of row i.
 use Prim.Native.Nat.{_+_, _*_}
 use Rattle.layout.specs.PackedLedger.{rowKind}
+use Rattle.layout.specs.Offsets.{firstRow, rowLength}
 use Rattle.codec.specs.Slots.{recordBytes}
-use Rattle.edits.specs.Offsets.{firstRow, rowLength}
 use Rattle.edits.proofs.Parts.{part-written}
 use Rattle.edits.proofs.PackedChanges.{length-row}
 use borrow.Author.Needs.{needs}

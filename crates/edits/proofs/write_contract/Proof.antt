@@ -1,8 +1,8 @@
 -- `write_contract` packs the contract into the slot of its number.
 use Prim.Native.Nat.{_+_, _*_}
 use Rattle.layout.specs.PackedLedger.{contractKind}
+use Rattle.layout.specs.Offsets.{firstContract, contractLength}
 use Rattle.codec.specs.Slots.{recordBytes}
-use Rattle.edits.specs.Offsets.{firstContract, contractLength}
 use Rattle.edits.proofs.Parts.{part-written}
 use Rattle.edits.proofs.PackedChanges.{length-contract}
 use borrow.Author.Needs.{needs}

@@ -1,31 +1,25 @@
 -- `pack_row` sets all the numbers of the slot.
-use mathlib.Core.Path.{refl, _∙_}
+use mathlib.Core.Path.{refl, sym, ap, subst, _∙_}
+use mathlib.Core.List.{List, _∷_, _++_}
+use Prim.Native.Nat.{ℕ}
 use native.Mathlib.Omega.{arith}
-use Rattle.records.specs.Pack.{size}
-use Rattle.records.specs.Slots.{slotOut}
+use Rattle.fields.specs.Fields.{Fit}
+use Rattle.records.specs.Pack.{size, pack}
+use Rattle.records.specs.Slots.{blank, whole, slotOut}
+use Rattle.model.specs.declared.Row.{Row}
+use Rattle.layout.specs.PackedLedger.{rowKind}
 use Rattle.codec.proofs.WholeSlots.{set-all}
 use Rattle.codec.specs.Slots.{recordBytes}
 use borrow.Author.Needs.{needs}
 use Rattle.codec.proofs.rows.pack_row.Statement.{statement}
 use Rattle.codec.proofs.rows.pack_row.Tie as tie
 
-cast-t6 : tie.Need-cast-t6
-cast-t6 c = search needs
+-- the numbers of the slot fit their widths where those of the row do
+whole-fits : (row : Row) → Fit (rowKind .widths) (rowKind .values row) → Fit (whole rowKind) (1 ∷ (rowKind .values row ++ blank (rowKind .zeros)))
+whole-fits row f = omega arith
 
-cast-t7 : tie.Need-cast-t7
-cast-t7 c = search needs
-
-cast-t8 : tie.Need-cast-t8
-cast-t8 c = search needs
-
-cast-t9 : tie.Need-cast-t9
-cast-t9 c = search needs
-
-cast-t10 : tie.Need-cast-t10
-cast-t10 c = search needs
-
-cast-t11 : tie.Need-cast-t11
-cast-t11 c = search needs
+slot-numbers-requires : tie.Need-slot-numbers-requires
+slot-numbers-requires c κs = search needs
 
 slice-aggregate-put-all : tie.Need-slice-aggregate-put-all
 slice-aggregate-put-all c = search needs
@@ -34,7 +28,9 @@ slice-aggregate-put-all-2 : tie.Need-slice-aggregate-put-all-2
 slice-aggregate-put-all-2 c = search needs
 
 put-all-requires : tie.Need-put-all-requires
-put-all-requires c κs = let start = c .before .before .before .before .before .before .before .before .before .before .before in (omega (arith, start .pre .0), (omega arith, (refl, (omega arith, start .pre .1))))
+put-all-requires c κs =
+    let start = c .before .before .before .before .before in
+    (omega (arith, start .pre .0), (omega arith, (refl, subst (Fit (whole rowKind)) (sym (c .before .before .before .slot-numbers .ensures)) (whole-fits (start .args .row) (start .pre .1)))))
 
 same-length : tie.Need-same-length
 same-length c = search needs
@@ -42,20 +38,19 @@ same-length c = search needs
 returns : tie.Need-returns
 unfolding recordBytes slotOut size
 returns c =
-    let start = c .before .before .before .before .before .before .before .before .before .before .before .before .before .before in
+    let at-numbers = c .before .before .before .before .before .before in
+    let start = at-numbers .before .before in
+    let numbers = at-numbers .slot-numbers .ensures in
     c .before .before .put-all .ensures
-    ∙ set-all (start .args .s .now) _ _ (λ i. omega (arith, c .before .before .before .before .before .before .before .before .before .before .before .before .before .slice-known .given i)) refl (start .pre .0) (omega arith, start .pre .1)
+    ∙ set-all (start .args .s .now) (whole rowKind) _ (λ i. omega (arith, at-numbers .before .slice-known .given i)) refl (start .pre .0)
+    (subst (Fit (whole rowKind)) (sym numbers) (whole-fits (start .args .row) (start .pre .1)))
+    ∙ ap (pack (whole rowKind)) numbers
 
 pub pack-row-spec : {M : Type 1} → statement M
 pack-row-spec =
     tie.close
     (tie.spec
-    cast-t6
-    cast-t7
-    cast-t8
-    cast-t9
-    cast-t10
-    cast-t11
+    slot-numbers-requires
     slice-aggregate-put-all
     slice-aggregate-put-all-2
     put-all-requires

@@ -6,40 +6,20 @@ use borrow.Author.Needs.{needs}
 use Rattle.codec.proofs.rows.unpack_row.Statement.{statement}
 use Rattle.codec.proofs.rows.unpack_row.Tie as tie
 
-get-window-requires : tie.Need-get-window-requires
-get-window-requires c κs = search needs
-
-get-window-requires-2 : tie.Need-get-window-requires-2
-get-window-requires-2 c κs = search needs
-
-get-window-requires-3 : tie.Need-get-window-requires-3
-get-window-requires-3 c κs = search needs
-
-get-window-requires-4 : tie.Need-get-window-requires-4
-get-window-requires-4 c κs = search needs
-
-get-window-requires-5 : tie.Need-get-window-requires-5
-get-window-requires-5 c κs = search needs
-
-get-window-requires-6 : tie.Need-get-window-requires-6
-get-window-requires-6 c κs = search needs
-
-get-window-requires-7 : tie.Need-get-window-requires-7
-get-window-requires-7 c κs = search needs
-
 returns : tie.Need-returns
 unfolding recordIn slotNumbers unpack fields
 returns c = cc
 
+-- each field lies in the slot
 pub unpack-row-spec : {M : Type 1} → statement M
 unpack-row-spec =
     tie.close
     (tie.spec
-    get-window-requires
-    get-window-requires-2
-    get-window-requires-3
-    get-window-requires-4
-    get-window-requires-5
-    get-window-requires-6
-    get-window-requires-7
+    (λ c κs. search needs)
+    (λ c κs. search needs)
+    (λ c κs. search needs)
+    (λ c κs. search needs)
+    (λ c κs. search needs)
+    (λ c κs. search needs)
+    (λ c κs. search needs)
     returns)

@@ -31,14 +31,11 @@ check-row-requires c κs = search needs
 enum-told : tie.Need-enum-told Inv-loop μ-loop
 enum-told c = search needs
 
-mul-is-zero : tie.Need-mul-is-zero Inv-loop μ-loop
-mul-is-zero c = search needs
+mul-at : tie.Need-mul-at Inv-loop μ-loop
+mul-at c = search needs
 
-add-is-zero : tie.Need-add-is-zero Inv-loop μ-loop
-add-is-zero c = search needs
-
-mul-is-zero-2 : tie.Need-mul-is-zero-2 Inv-loop μ-loop
-mul-is-zero-2 c = search needs
+add-at : tie.Need-add-at Inv-loop μ-loop
+add-at c = search needs
 
 sub-is-zero : tie.Need-sub-is-zero Inv-loop μ-loop
 sub-is-zero c = search needs
@@ -46,8 +43,8 @@ sub-is-zero c = search needs
 is-zero-requires : tie.Need-is-zero-requires Inv-loop μ-loop
 is-zero-requires c κs = search needs
 
-cast-t14 : tie.Need-cast-t14 Inv-loop μ-loop
-cast-t14 c = search needs
+cast-t12 : tie.Need-cast-t12 Inv-loop μ-loop
+cast-t12 c = search needs
 
 returns : tie.Need-returns Inv-loop μ-loop
 returns c =
@@ -115,12 +112,11 @@ check-rows-spec =
     loop-holds
     check-row-requires
     enum-told
-    mul-is-zero
-    add-is-zero
-    mul-is-zero-2
+    mul-at
+    add-at
     sub-is-zero
     is-zero-requires
-    cast-t14
+    cast-t12
     returns
     returns-2
     enum-told-2

@@ -12,6 +12,7 @@ use Rattle.records.specs.Slots.{slotOk}
 use Rattle.model.specs.Document01.{document01}
 use Rattle.layout.specs.Layout.{territoryIn}
 use Rattle.layout.specs.PackedLedger.{contractKind, rangesOf, packedLayout}
+use Rattle.layout.specs.Offsets.{firstContract, contractLength, contractCount}
 use Rattle.codec.specs.Slots.{slotNumbers}
 use Rattle.ledger.proofs.Access.{contracts-pass, contracts-fail}
 use borrow.Author.Needs.{needs}
@@ -20,14 +21,14 @@ use Rattle.ledger.proofs.check.contracts_ok.Tie as tie
 
 -- the test of contract slot c
 abbrev tested : ℕ → List ℕ → ℕ → Bool
-tested territory b c = slotOk contractKind (rangesOf territory) (slotNumbers contractKind (take 5 (drop (8 + c * 5) b)))
+tested territory b c = slotOk contractKind (rangesOf territory) (slotNumbers contractKind (take contractLength (drop (firstContract + c * contractLength) b)))
 
 abbrev Inv-loop : tie.InvT-loop
 Inv-loop b territory c₀ c =
-    (c ≤ 64) × ((territory ≡ territoryIn document01 packedLayout b) × ((i : ℕ) → i < c → tested territory b i ≡ true))
+    (c ≤ contractCount) × ((territory ≡ territoryIn document01 packedLayout b) × ((i : ℕ) → i < c → tested territory b i ≡ true))
 
 abbrev μ-loop : tie.MeasureT-loop
-μ-loop b territory c₀ c = 64 - c
+μ-loop b territory c₀ c = contractCount - c
 
 territory-requires : tie.Need-territory-requires Inv-loop μ-loop
 territory-requires c κs = search needs
@@ -59,10 +60,10 @@ slot-ok-requires c κs = search needs
 -- what the call finds of the slot at hand
 found : (c : tie.After-slot-ok Inv-loop μ-loop) → c .slot-ok .result ≡ tested (c .before .before .before .before .territory .result) (c .before .before .before .before .before .before .args .b .now) (c .before .before .before .loop .c)
 found c =
-    let at = 8 + c .before .before .before .loop .c * 5 in
-    let five : at + 5 - at ≡ 5 = omega arith in
+    let at = firstContract + c .before .before .before .loop .c * contractLength in
+    let lent : at + contractLength - at ≡ contractLength = omega arith in
     c .slot-ok .ensures
-    ∙ ap (λ (n : ℕ). slotOk contractKind (rangesOf (c .before .before .before .before .territory .result)) (slotNumbers contractKind (take n (drop at (c .before .before .before .before .before .before .args .b .now))))) five
+    ∙ ap (λ (n : ℕ). slotOk contractKind (rangesOf (c .before .before .before .before .territory .result)) (slotNumbers contractKind (take n (drop at (c .before .before .before .before .before .before .args .b .now))))) lent
 
 returns : tie.Need-returns Inv-loop μ-loop
 returns c =

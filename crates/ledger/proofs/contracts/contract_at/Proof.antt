@@ -4,6 +4,7 @@ use Prim.Native.Nat.{ℕ, _+_, _-_, _*_}
 use native.Mathlib.Omega.{arith}
 use lib.ListN.{take, drop}
 use Rattle.layout.specs.PackedLedger.{contractKind}
+use Rattle.layout.specs.Offsets.{firstContract, contractLength}
 use Rattle.codec.specs.Slots.{recordIn}
 use Rattle.ledger.proofs.Access.{contract-read}
 use borrow.Author.Needs.{needs}
@@ -34,10 +35,10 @@ unpack-contract-requires c κs = search needs
 returns : tie.Need-returns
 returns c =
     let start = c .before .before .before in
-    let at = 8 + start .args .c * 5 in
-    let five : at + 5 - at ≡ 5 = omega arith in
+    let at = firstContract + start .args .c * contractLength in
+    let lent : at + contractLength - at ≡ contractLength = omega arith in
     c .unpack-contract .ensures
-    ∙ ap (λ (n : ℕ). recordIn contractKind (take n (drop at (start .args .b .now)))) five
+    ∙ ap (λ (n : ℕ). recordIn contractKind (take n (drop at (start .args .b .now)))) lent
     ∙ contract-read (start .args .b .now) (start .args .c) (start .pre .0) (start .pre .1 .0) (start .pre .1 .1)
 
 pub contract-at-spec : {M : Type 1} → statement M

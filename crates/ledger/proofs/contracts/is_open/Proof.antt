@@ -4,6 +4,7 @@ use Prim.Native.Nat.{ℕ, _+_, _-_, _*_}
 use native.Mathlib.Omega.{arith}
 use lib.ListN.{take, drop}
 use Rattle.layout.specs.PackedLedger.{contractKind}
+use Rattle.layout.specs.Offsets.{firstContract, contractLength}
 use Rattle.codec.specs.Slots.{isTaken}
 use Rattle.ledger.proofs.Access.{contract-open}
 use borrow.Author.Needs.{needs}
@@ -34,10 +35,10 @@ is-open-requires c κs = search needs
 returns : tie.Need-returns
 returns c =
     let start = c .before .before .before in
-    let at = 8 + start .args .c * 5 in
-    let five : at + 5 - at ≡ 5 = omega arith in
+    let at = firstContract + start .args .c * contractLength in
+    let lent : at + contractLength - at ≡ contractLength = omega arith in
     c .is-open .ensures
-    ∙ ap (λ (n : ℕ). isTaken contractKind (take n (drop at (start .args .b .now)))) five
+    ∙ ap (λ (n : ℕ). isTaken contractKind (take n (drop at (start .args .b .now)))) lent
     ∙ contract-open (start .args .b .now) (start .args .c) (start .pre .0) (start .pre .1)
 
 pub is-open-spec : {M : Type 1} → statement M

@@ -1,11 +1,13 @@
 -- `first_row` goes over the rows: what is left to pass over, with the rows passed, is the place.
 use mathlib.Core.Path.{_≡_, sym, ap, _∙_}
+use mathlib.Core.List.{[]}
 use Prim.Native.Nat.{_+_, _-_, _≤_, _<_}
 use native.Mathlib.Omega.{arith}
 use lib.ListN.{length, drop, getD}
 use Rattle.model.specs.declared.Row.{Row}
 use Rattle.model.specs.Document01.{document01}
 use Rattle.model.specs.Places.{placeOf}
+use Rattle.model.specs.RowNumbers.{rowOfNumbers}
 use Rattle.layout.specs.Layout.{ledgerOf}
 use Rattle.layout.specs.PackedLedger.{packedLayout}
 use Rattle.ledger.specs.Rows.{rowPasses}
@@ -15,7 +17,7 @@ use Rattle.ledger.proofs.rows.first_row.Statement.{statement}
 use Rattle.ledger.proofs.rows.first_row.Tie as tie
 
 abbrev noRow : Row
-noRow = record { bill = record { contract = 0; first = 0; last = 0; kwh = 0; reference = 0; supply = 0 }; amount = 0 }
+noRow = rowOfNumbers []
 
 abbrev Inv-loop : tie.InvT-loop
 Inv-loop b rows test i₀ i =

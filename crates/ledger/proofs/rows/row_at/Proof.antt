@@ -4,6 +4,7 @@ use Prim.Native.Nat.{ℕ, _+_, _-_, _*_}
 use native.Mathlib.Omega.{arith}
 use lib.ListN.{take, drop}
 use Rattle.layout.specs.PackedLedger.{rowKind}
+use Rattle.layout.specs.Offsets.{firstRow, rowLength}
 use Rattle.codec.specs.Slots.{recordIn}
 use Rattle.ledger.specs.Check.{rowSlotAt}
 use Rattle.ledger.specs.Rows.{rowAt}
@@ -36,9 +37,9 @@ returns : tie.Need-returns
 unfolding rowAt recordIn rowSlotAt
 returns c =
     let start = c .before .before .before in
-    let at = 328 + start .args .i * 18 in
-    let eighteen : at + 18 - at ≡ 18 = omega arith in
-    c .unpack-row .ensures ∙ ap (λ (n : ℕ). recordIn rowKind (take n (drop at (start .args .b .now)))) eighteen
+    let at = firstRow + start .args .i * rowLength in
+    let lent : at + rowLength - at ≡ rowLength = omega arith in
+    c .unpack-row .ensures ∙ ap (λ (n : ℕ). recordIn rowKind (take n (drop at (start .args .b .now)))) lent
 
 pub row-at-spec : {M : Type 1} → statement M
 row-at-spec =

@@ -1,2 +1,0 @@
--- Where the parts of the packed ledger stand.
-pub mod Offsets
