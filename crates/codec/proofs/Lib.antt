@@ -2,3 +2,4 @@
 pub mod ContractSlots
 pub mod Prefixes
 pub mod WholeSlots
+pub mod AmountWritten

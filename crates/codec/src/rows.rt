@@ -6,7 +6,10 @@ use model::Row;
 use rates::Bill;
 ghost use mathlib.Core.Path.{_≡_};
 ghost use mathlib.Core.List.{_∷_, _++_};
+ghost use mathlib.Core.Bool.{true};
+ghost use Prim.Native.Nat.{_^_, _<_};
 ghost use lib.ListN.{length};
+ghost use Rattle.model.specs.Ledger.{withAmount};
 ghost use Rattle.fields.specs.Fields.{Fit};
 ghost use Rattle.records.specs.Slots.{blank};
 ghost use Rattle.layout.specs.PackedLedger.{rowKind};
@@ -117,4 +120,12 @@ pub fn pack_row(s: &mut [u8], row: Row)
     let widths = WIDTHS;
     let values = slot_numbers(row);
     put_all(s, &widths, &values);
+}
+
+// Writes the amount of the row that a slot holds.
+pub fn put_amount(s: &mut [u8], amount: u64)
+    requires { ⌜ (length (now s) ≡ rowLength) × ((isTaken rowKind (now s) ≡ true) × (amount < 2 ^ 50)) ⌝ }
+    ensures { λ _. ⌜ now (s .exit) ≡ recordBytes rowKind (withAmount (recordIn rowKind (now (s .entry))) amount) ⌝ }
+{
+    fields::put_window(s, AMOUNT_WINDOW, AMOUNT_AT, AMOUNT_BITS, amount);
 }

@@ -1,9 +1,11 @@
 -- A row read off the bytes that hold given facts, well formed or not. Assumes nothing.
 use mathlib.Core.Path.{_≡_, refl, sym, ap, _∙_}
+use mathlib.Core.Bool.{true, not}
 use mathlib.Core.List.{List, _++_}
 use mathlib.Core.Option.{some}
 use Prim.Native.Nat.{ℕ, _+_, _*_, _<_, _≤_}
 use native.Mathlib.Omega.{arith}
+use lib.Dec.{eqb}
 use lib.ListN.{length, take, drop, getD}
 use lib.Seq.{length-take-le, take-at, drop-at, set-getD}
 use Rattle.fields.specs.Fields.{Fit}
@@ -18,7 +20,7 @@ use Rattle.layout.specs.Layout.{rowCount, bytesOf}
 use Rattle.layout.specs.PackedLedger.{rowKind, packedLayout}
 use Rattle.layout.specs.Offsets.{ledgerLength, firstRow, rowLength}
 use Rattle.layout.proofs.PackedLedger.{packed-laws}
-use Rattle.codec.specs.Slots.{slotNumbers, recordBytes}
+use Rattle.codec.specs.Slots.{slotNumbers, isTaken, recordBytes}
 use Rattle.edits.proofs.PackedChanges.{length-row, replaced-row}
 use Rattle.ledger.specs.Check.{rowSlotAt}
 use Rattle.ledger.specs.Rows.{rowAt}
@@ -54,3 +56,10 @@ module _ (l : Ledger) (i : ℕ) (d : Row) (inside : i < length (l .rows)) (most 
     where
       aligned : WholeBytes (whole rowKind)
       aligned = packed-laws .row (l .contracts) .aligned
+
+  -- the slot is held
+  pub row-taken : length b ≡ ledgerLength → Fit (rowKind .widths) (rowKind .values x) → isTaken rowKind (take rowLength (drop at b)) ≡ true
+  unfolding isTaken slotNumbers recordBytes slotOut
+  row-taken n f =
+      ap (λ (s : List ℕ). not (eqb (getD (unpack (whole rowKind) s) 0 0) 0)) (slot-bytes n)
+      ∙ ap (λ (v : List ℕ). not (eqb (getD v 0 0) 0)) (unpack-pack (whole rowKind) (slotOut rowKind (some x)) (packed-laws .row (l .contracts) .aligned) (omega arith, f))

@@ -1,8 +1,9 @@
 -- One row re-rated: its amount, and what the bytes are left with. Assumes nothing.
 use mathlib.Core.Path.{_≡_, refl, sym, ap, _∙_}
 use mathlib.Core.List.{List}
-use Prim.Native.Nat.{ℕ, _+_, _*_}
+use Prim.Native.Nat.{ℕ, _+_, _*_, _^_, _<_}
 use native.Mathlib.Omega.{arith}
+use lib.ListN.{take, drop}
 use Rattle.basics.proofs.Tests.{yes-eq, no-eq}
 use Rattle.fields.specs.Fields.{Fit}
 use Rattle.records.specs.Edits.{replaceAt}
@@ -11,16 +12,29 @@ use Rattle.rates.specs.Rates.{amount}
 use Rattle.rates.proofs.WithinCaps.{amount-bits}
 use Rattle.model.specs.declared.Row.{Row}
 use Rattle.model.specs.Document01.{document01}
-use Rattle.model.specs.Ledger.{priced, rerated}
+use Rattle.model.specs.Ledger.{withAmount, priced, rerated}
 use Rattle.layout.specs.PackedLedger.{rowKind}
 use Rattle.layout.specs.Offsets.{firstRow, rowLength}
-use Rattle.codec.specs.Slots.{recordBytes}
+use Rattle.codec.specs.Slots.{recordIn, recordBytes}
+use Rattle.ledger.specs.Check.{rowSlotAt}
+use Rattle.ledger.specs.Rows.{rowAt}
 use Rattle.contract_calls.specs.declared.rerating.Rerated.{Rerated}
 use Rattle.contract_calls.specs.Rerating.{Ratable, rowRerated, slotRerated}
 
+-- an amount under any terms fits its field
+pub rated-low : (terms : Contract) (x : Row) (a : ℕ) → Ratable x → a ≡ amount terms (x .bill) → a < 2 ^ 50
+rated-low terms x a r e = omega (arith, amount-bits terms (x .bill) (r .kwh) (r .supply))
+
 -- a row with its amount under any terms fits its fields
-pub rated-fits : (terms : Contract) (x : Row) (a : ℕ) → Ratable x → a ≡ amount terms (x .bill) → Fit (rowKind .widths) (rowKind .values (record { bill = x .bill; amount = a }))
+pub rated-fits : (terms : Contract) (x : Row) (a : ℕ) → Ratable x → a ≡ amount terms (x .bill) → Fit (rowKind .widths) (rowKind .values (withAmount x a))
 rated-fits terms x a r e = let f = r .fits in omega (arith, amount-bits terms (x .bill) (r .kwh) (r .supply))
+
+-- the bytes with the amount of slot i written, where x is its row
+pub amount-put : (b after : List ℕ) (i a : ℕ) (x : Row) → x ≡ rowAt b i
+    → after ≡ replaceAt (firstRow + i * rowLength) (recordBytes rowKind (withAmount (recordIn rowKind (take rowLength (drop (firstRow + i * rowLength) b))) a)) b
+    → after ≡ replaceAt (firstRow + i * rowLength) (recordBytes rowKind (withAmount x a)) b
+unfolding rowAt rowSlotAt recordIn
+amount-put b after i a x e w = w ∙ ap (λ (y : Row). replaceAt (firstRow + i * rowLength) (recordBytes rowKind (withAmount y a)) b) (sym e)
 
 module _ (contract : ℕ) (terms : Contract) (x : Row) where
   -- a row of another contract is as it was

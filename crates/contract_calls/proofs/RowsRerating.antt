@@ -5,7 +5,7 @@ use mathlib.Core.List.{List, [], map}
 use Prim.Native.Nat.{ℕ, _+_, _*_, _^_, _<_, _≤_}
 use native.Mathlib.Omega.{arith}
 use lib.Dec.{eqb}
-use lib.ListN.{length, drop, getD, set}
+use lib.ListN.{length, take, drop, getD, set}
 use lib.Seq.{set-getD}
 use Rattle.basics.specs.Lists.{All, total, count}
 use Rattle.basics.proofs.Tests.{either, le-yes, eq-yes, eq-no}
@@ -27,14 +27,14 @@ use Rattle.layout.specs.PackedLedger.{rowKind, packedLayout}
 use Rattle.layout.specs.Offsets.{ledgerLength, firstRow, rowLength}
 use Rattle.layout.proofs.LayoutLaws.{row-test}
 use Rattle.layout.proofs.PackedLedger.{packed-laws, packed-format, round-trips}
-use Rattle.codec.specs.Slots.{recordBytes}
+use Rattle.codec.specs.Slots.{isTaken, recordBytes}
 use Rattle.edits.proofs.PackedChanges.{replaced-row}
 use Rattle.ledger.specs.Rows.{rowAt}
 use Rattle.ledger.proofs.HeldRows.{formed-length, rows-most}
 use Rattle.contract_calls.specs.declared.rerating.Rerated.{Rerated}
-use Rattle.contract_calls.specs.Rerating.{Ratable, newAmount, amountChanges, rowRerated, rowsRerated, slotRerated}
+use Rattle.contract_calls.specs.Rerating.{Ratable, RatableSlot, newAmount, amountChanges, rowRerated, rowsRerated, slotRerated}
 use Rattle.contract_calls.proofs.FirstMapped.{firstMapped, first-all, length-first, first-at, first-next, total-next, total-end, all-at}
-use Rattle.contract_calls.proofs.RowReading.{row-read}
+use Rattle.contract_calls.proofs.RowReading.{row-read, row-taken}
 use Rattle.contract_calls.proofs.RowRerating.{rated-fits, other-row, own-row}
 
 abbrev noRow : Row
@@ -117,10 +117,20 @@ module _ (b₀ : List ℕ) (formed : wellFormed document01 packedLayout b₀ ≡
       pub next-ratable : Ratable x
       next-ratable = all-at Ratable xs noRow ratables i inside
 
-      pub next-row : rowAt b i ≡ x
-      next-row =
-          ap (λ (y : List ℕ). rowAt y i) (p .bytes)
-          ∙ row-read passed i noRow within few (ap length (sym (p .bytes)) ∙ p .long) (subst (λ (y : Row). Fit (rowKind .widths) (rowKind .values y)) (sym here) (next-ratable .fits)) ∙ here
+      next-fits : Fit (rowKind .widths) (rowKind .values (getD (passed .rows) i noRow))
+      next-fits = subst (λ (y : Row). Fit (rowKind .widths) (rowKind .values y)) (sym here) (next-ratable .fits)
+
+      next-long : length (bytesOf document01 packedLayout passed) ≡ ledgerLength
+      next-long = ap length (sym (p .bytes)) ∙ p .long
+
+      next-row : rowAt b i ≡ x
+      next-row = ap (λ (y : List ℕ). rowAt y i) (p .bytes) ∙ row-read passed i noRow within few next-long next-fits ∙ here
+
+      pub next-slot : RatableSlot b i
+      next-slot = record {
+        taken = ap (λ (y : List ℕ). isTaken rowKind (take rowLength (drop (firstRow + i * rowLength) y))) (p .bytes) ∙ row-taken passed i noRow within few next-long next-fits;
+        ratable = subst Ratable (sym next-row) next-ratable;
+      }
 
       next-bytes : (d : List ℕ) → d ≡ slotRerated contract terms i x b → d ≡ bytesOf document01 packedLayout (withRows l (firstMapped f (i + 1) xs))
       unfolding slotRerated

@@ -1,8 +1,10 @@
 -- Document 01, "Calls": cert re-rates the contract's rows. What that finds of one row and of all, and the bytes that it leaves of a row. Assumes nothing.
-use mathlib.Core.Bool.{Bool, not, cond}
+use mathlib.Core.Path.{_≡_}
+use mathlib.Core.Bool.{Bool, true, not, cond}
 use mathlib.Core.List.{List, map}
 use Prim.Native.Nat.{ℕ, _+_, _*_, _≤_}
 use lib.Dec.{eqb}
+use lib.ListN.{take, drop}
 use Rattle.basics.specs.Lists.{total, count}
 use Rattle.fields.specs.Fields.{Fit}
 use Rattle.records.specs.Edits.{replaceAt}
@@ -12,7 +14,8 @@ use Rattle.model.specs.Document01.{document01}
 use Rattle.model.specs.Ledger.{ofContract, rerated}
 use Rattle.layout.specs.PackedLedger.{rowKind}
 use Rattle.layout.specs.Offsets.{firstRow, rowLength}
-use Rattle.codec.specs.Slots.{recordBytes}
+use Rattle.codec.specs.Slots.{isTaken, recordBytes}
+use Rattle.ledger.specs.Rows.{rowAt}
 use Rattle.contract_calls.specs.declared.rerating.Rerated.{Rerated}
 
 -- a row whose numbers fit their fields, and whose kWh and S are low enough that its amount fits under any contract
@@ -20,6 +23,11 @@ pub record Ratable (x : Row) : Type 0 where
   pub fits : Fit (rowKind .widths) (rowKind .values x)
   pub kwh : x .bill .kwh ≤ 100000000
   pub supply : x .bill .supply ≤ 999999
+
+-- a slot that holds such a row
+pub record RatableSlot (b : List ℕ) (i : ℕ) : Type 0 where
+  pub taken : isTaken rowKind (take rowLength (drop (firstRow + i * rowLength) b)) ≡ true
+  pub ratable : Ratable (rowAt b i)
 
 module _ (contract : ℕ) (terms : Contract) where
   -- a row's amount under the terms, where it is a row of the contract

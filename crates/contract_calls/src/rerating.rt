@@ -1,7 +1,6 @@
 // The rows of a contract re-rated, under its terms with the new certificate.
-use edits::replace_row;
+use edits::replace_amount;
 use ledger::rows::row_at;
-use model::Row;
 use rates::Contract;
 ghost use mathlib.Core.Path.{_≡_};
 ghost use mathlib.Core.List.{map};
@@ -13,7 +12,7 @@ ghost use Rattle.layout.specs.Layout.{rowCount, ledgerOf, bytesOf};
 ghost use Rattle.layout.specs.PackedLedger.{packedLayout};
 ghost use Rattle.layout.specs.Offsets.{ledgerLength};
 ghost use Rattle.ledger.specs.Rows.{rowAt, Searched};
-ghost use Rattle.contract_calls.specs.Rerating.{Ratable, rowRerated, rowsRerated, slotRerated};
+ghost use Rattle.contract_calls.specs.Rerating.{RatableSlot, rowRerated, rowsRerated, slotRerated};
 
 // What re-rating finds: the sum of the new amounts, and how many of the amounts changed.
 pub struct Rerated {
@@ -23,7 +22,7 @@ pub struct Rerated {
 
 // Re-rates row i where it is a row of the contract.
 fn rerate_row(b: &mut [u8], i: usize, contract: u32, terms: Contract) -> Rerated
-    requires { ⌜ (length (now b) ≡ ledgerLength) × ((i < rowCount) × Ratable (rowAt (now b) i)) ⌝ }
+    requires { ⌜ (length (now b) ≡ ledgerLength) × ((i < rowCount) × RatableSlot (now b) i) ⌝ }
     ensures { λ r. ⌜ (r ≡ rowRerated contract terms (rowAt (now (b .entry)) i)) × (now (b .exit) ≡ slotRerated contract terms i (rowAt (now (b .entry)) i) (now (b .entry))) ⌝ }
 {
     let row = row_at(b, i);
@@ -35,7 +34,7 @@ fn rerate_row(b: &mut [u8], i: usize, contract: u32, terms: Contract) -> Rerated
         };
     }
     let amount = rates::amount(terms, bill);
-    replace_row(b, i, Row { bill, amount });
+    replace_amount(b, i, amount);
     if amount == row.amount {
         return Rerated {
             due: amount,

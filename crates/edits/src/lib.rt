@@ -2,6 +2,7 @@
 use codec::contracts::pack_contract;
 use codec::header::write_header;
 use codec::rows::pack_row;
+use codec::rows::put_amount;
 use layout::CONTRACT_LENGTH;
 use layout::FIRST_CONTRACT;
 use layout::FIRST_ROW;
@@ -9,16 +10,17 @@ use layout::ROW_LENGTH;
 use model::Row;
 use rates::Contract;
 ghost use mathlib.Core.Path.{_≡_};
-ghost use Prim.Native.Nat.{_+_, _*_, _≤_, _<_};
-ghost use lib.ListN.{length};
+ghost use mathlib.Core.Bool.{true};
+ghost use Prim.Native.Nat.{_+_, _*_, _^_, _≤_, _<_};
+ghost use lib.ListN.{length, take, drop};
 ghost use Rattle.fields.specs.Fields.{Fit};
 ghost use Rattle.records.specs.Edits.{insertAt, removeAt, replaceAt, onPart};
 ghost use Rattle.model.specs.Document01.{document01};
-ghost use Rattle.model.specs.Ledger.{fresh};
+ghost use Rattle.model.specs.Ledger.{fresh, withAmount};
 ghost use Rattle.layout.specs.Layout.{rowCount, bytesOf};
 ghost use Rattle.layout.specs.PackedLedger.{contractKind, rowKind, packedLayout};
 ghost use Rattle.layout.specs.Offsets.{ledgerLength, firstContract, contractLength, contractCount, firstRow, rowLength};
-ghost use Rattle.codec.specs.Slots.{recordBytes};
+ghost use Rattle.codec.specs.Slots.{isTaken, recordIn, recordBytes};
 
 // Of the `rows` held rows, those from row i on move up, and the row comes in at place i.
 pub fn insert_row(b: &mut [u8], rows: usize, i: usize, row: Row)
@@ -47,6 +49,15 @@ pub fn replace_row(b: &mut [u8], i: usize, row: Row)
 {
     let at = FIRST_ROW + i * ROW_LENGTH;
     pack_row(&mut b[at..at + ROW_LENGTH], row);
+}
+
+// Writes the amount of row i, which is held.
+pub fn replace_amount(b: &mut [u8], i: usize, amount: u64)
+    requires { ⌜ (length (now b) ≡ ledgerLength) × ((i < rowCount) × ((isTaken rowKind (take rowLength (drop (firstRow + i * rowLength) (now b))) ≡ true) × (amount < 2 ^ 50))) ⌝ }
+    ensures { λ _. ⌜ now (b .exit) ≡ replaceAt (firstRow + i * rowLength) (recordBytes rowKind (withAmount (recordIn rowKind (take rowLength (drop (firstRow + i * rowLength) (now (b .entry))))) amount)) (now (b .entry)) ⌝ }
+{
+    let at = FIRST_ROW + i * ROW_LENGTH;
+    put_amount(&mut b[at..at + ROW_LENGTH], amount);
 }
 
 // Writes the contract under the number c, whether or not that number was open.

@@ -61,6 +61,10 @@ replace p r (x ∷ xs) = cond (p (x .bill)) (r ∷ xs) (x ∷ replace p r xs)
 abbrev pub ofContract : ℕ → Row → Bool
 ofContract c x = eqb (x .bill .contract) c
 
+-- a row with another amount
+abbrev pub withAmount : Row → ℕ → Row
+withAmount x amount = record { bill = x .bill; amount = amount }
+
 -- the sum of the held amounts
 unfoldable pub due : Ledger → ℕ
 due l = total (λ x. x .amount) (l .rows)

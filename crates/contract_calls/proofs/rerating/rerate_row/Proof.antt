@@ -4,14 +4,14 @@ use mathlib.Core.List.{List}
 use Prim.Native.Nat.{ℕ}
 use Rattle.model.specs.declared.Row.{Row}
 use Rattle.contract_calls.specs.Rerating.{Ratable}
-use Rattle.contract_calls.proofs.RowRerating.{rated-fits, LeftOf, row-kept, row-same, row-changed}
+use Rattle.contract_calls.proofs.RowRerating.{rated-low, amount-put, LeftOf, row-kept, row-same, row-changed}
 use borrow.Author.Needs.{needs}
 use Rattle.contract_calls.proofs.rerating.rerate_row.Statement.{statement}
 use Rattle.contract_calls.proofs.rerating.rerate_row.Tie as tie
 
 -- the row that was read can be rated
 ratable : (c : tie.After-row-at) → Ratable (c .row-at .result)
-ratable c = subst Ratable (sym (c .row-at .ensures)) (c .before .before .before .pre .1 .1)
+ratable c = subst Ratable (sym (c .row-at .ensures)) (c .before .before .before .pre .1 .1 .ratable)
 
 row-at-requires : tie.Need-row-at-requires
 row-at-requires c κs = search needs
@@ -29,11 +29,11 @@ returns c =
 amount-requires : tie.Need-amount-requires
 amount-requires c κs = let r = ratable (c .before .before .before) in (r .kwh, r .supply)
 
-replace-row-requires : tie.Need-replace-row-requires
-replace-row-requires c κs =
+replace-amount-requires : tie.Need-replace-amount-requires
+replace-amount-requires c κs =
     let at-row = c .before .before .before .before .before in
     let start = at-row .before .before .before in
-    (start .pre .0, (start .pre .1 .0, rated-fits (start .args .terms) (at-row .row-at .result) (c .before .amount .result) (ratable at-row) (c .before .amount .ensures)))
+    (start .pre .0, (start .pre .1 .0, (start .pre .1 .1 .taken, rated-low (start .args .terms) (at-row .row-at .result) (c .before .amount .result) (ratable at-row) (c .before .amount .ensures))))
 
 same-length-2 : tie.Need-same-length-2
 same-length-2 c = search needs
@@ -44,9 +44,9 @@ returns-2 c =
     let at-amount = at-replace .before .before in
     let at-row = at-amount .before .before .before .before in
     let a = at-row .before .before .before .args in
-    let after : List ℕ = at-replace .replace-row .last .0 in
+    let after : List ℕ = at-replace .replace-amount .last .0 in
     subst (λ (x : Row). LeftOf (a .contract) (a .terms) x (a .i) (a .b .now) (record { due = at-amount .amount .result; changed = 0 }) after) (at-row .row-at .ensures)
-    (row-same (a .contract) (a .terms) (at-row .row-at .result) (a .i) (a .b .now) (at-amount .before .if1 .left) (at-amount .amount .result) (at-amount .amount .ensures) after (at-replace .replace-row .ensures) (c .if2 .taken))
+    (row-same (a .contract) (a .terms) (at-row .row-at .result) (a .i) (a .b .now) (at-amount .before .if1 .left) (at-amount .amount .result) (at-amount .amount .ensures) after (amount-put (a .b .now) after (a .i) (at-amount .amount .result) (at-row .row-at .result) (at-row .row-at .ensures) (at-replace .replace-amount .ensures)) (c .if2 .taken))
 
 same-length-3 : tie.Need-same-length-3
 same-length-3 c = search needs
@@ -57,9 +57,9 @@ returns-3 c =
     let at-amount = at-replace .before .before in
     let at-row = at-amount .before .before .before .before in
     let a = at-row .before .before .before .args in
-    let after : List ℕ = at-replace .replace-row .last .0 in
+    let after : List ℕ = at-replace .replace-amount .last .0 in
     subst (λ (x : Row). LeftOf (a .contract) (a .terms) x (a .i) (a .b .now) (record { due = at-amount .amount .result; changed = 1 }) after) (at-row .row-at .ensures)
-    (row-changed (a .contract) (a .terms) (at-row .row-at .result) (a .i) (a .b .now) (at-amount .before .if1 .left) (at-amount .amount .result) (at-amount .amount .ensures) after (at-replace .replace-row .ensures) (c .if2 .left))
+    (row-changed (a .contract) (a .terms) (at-row .row-at .result) (a .i) (a .b .now) (at-amount .before .if1 .left) (at-amount .amount .result) (at-amount .amount .ensures) after (amount-put (a .b .now) after (a .i) (at-amount .amount .result) (at-row .row-at .result) (at-row .row-at .ensures) (at-replace .replace-amount .ensures)) (c .if2 .left))
 
 pub rerate-row-spec : {M : Type 1} → statement M
 rerate-row-spec =
@@ -69,7 +69,7 @@ rerate-row-spec =
     same-length
     returns
     amount-requires
-    replace-row-requires
+    replace-amount-requires
     same-length-2
     returns-2
     same-length-3

@@ -7,8 +7,7 @@ use Rattle.model.specs.Document01.{document01}
 use Rattle.layout.specs.Layout.{ledgerOf}
 use Rattle.layout.specs.PackedLedger.{packedLayout}
 use Rattle.ledger.proofs.HeldRows.{formed-length, rows-most}
-use Rattle.contract_calls.specs.Rerating.{Ratable}
-use Rattle.contract_calls.proofs.RowsRerating.{Passed, none-passed, new-sum-low, changes-low, next-ratable, next-row, row-passed, all-passed}
+use Rattle.contract_calls.proofs.RowsRerating.{Passed, none-passed, new-sum-low, changes-low, next-slot, row-passed, all-passed}
 use borrow.Author.Needs.{needs}
 use Rattle.contract_calls.proofs.rerating.rerate_rows.Statement.{statement}
 use Rattle.contract_calls.proofs.rerating.rerate_rows.Tie as tie
@@ -45,7 +44,7 @@ rerate-row-requires c κs =
     let a = start .args in
     let h = inside at-turn in
     let p = at-loop .loop .inv .1 in
-    (p .long, (omega (arith, rows-most (a .b .now) (start .pre .formed)), subst Ratable (sym (next-row (a .b .now) (start .pre .formed) (a .contract) (a .terms) (at-loop .loop .i) h (at-loop .loop .b) (at-loop .loop .due) (at-loop .loop .changed) p)) (next-ratable (a .b .now) (start .pre .formed) (a .contract) (a .terms) (at-loop .loop .i) h (at-loop .loop .b) (at-loop .loop .due) (at-loop .loop .changed) p)))
+    (p .long, (omega (arith, rows-most (a .b .now) (start .pre .formed)), next-slot (a .b .now) (start .pre .formed) (a .contract) (a .terms) (at-loop .loop .i) h (at-loop .loop .b) (at-loop .loop .due) (at-loop .loop .changed) p))
 
 add-due : tie.Need-add-due Inv-loop μ-loop
 add-due c =

@@ -1,0 +1,23 @@
+-- `put_amount` writes one field of the slot.
+use mathlib.Core.Path.{_∙_}
+use Rattle.codec.proofs.AmountWritten.{amount-written}
+use borrow.Author.Needs.{needs}
+use Rattle.codec.proofs.rows.put_amount.Statement.{statement}
+use Rattle.codec.proofs.rows.put_amount.Tie as tie
+
+put-window-requires : tie.Need-put-window-requires
+put-window-requires c κs = search needs
+
+same-length : tie.Need-same-length
+same-length c = search needs
+
+returns : tie.Need-returns
+returns c =
+    let at-put = c .before .before in
+    let at-known = at-put .before .before in
+    let start = at-known .before in
+    at-put .put-window .ensures
+    ∙ amount-written (start .args .s .now) (start .args .amount) (λ k. at-known .slice-known .given k .fits) (start .pre .0) (start .pre .1 .0) (start .pre .1 .1)
+
+pub put-amount-spec : {M : Type 1} → statement M
+put-amount-spec = tie.close (tie.spec put-window-requires same-length returns)

@@ -1,0 +1,71 @@
+-- `replace_amount` writes the amount in the slot of row i.
+use mathlib.Core.Path.{_≡_, ap, _∙_}
+use mathlib.Core.List.{List}
+use Prim.Native.Nat.{ℕ, _+_, _-_, _*_}
+use native.Mathlib.Omega.{arith}
+use lib.ListN.{take, drop, length-drop}
+use lib.Seq.{length-take-le}
+use Rattle.model.specs.declared.Row.{Row}
+use Rattle.model.specs.Ledger.{withAmount}
+use Rattle.layout.specs.PackedLedger.{rowKind}
+use Rattle.layout.specs.Offsets.{firstRow, rowLength}
+use Rattle.codec.specs.Slots.{recordIn, recordBytes}
+use Rattle.edits.proofs.Parts.{part-written}
+use Rattle.edits.proofs.PackedChanges.{length-row}
+use borrow.Author.Needs.{needs}
+use Rattle.edits.proofs.replace_amount.Statement.{statement}
+use Rattle.edits.proofs.replace_amount.Tie as tie
+
+mul-at : tie.Need-mul-at
+mul-at c = search needs
+
+add-at : tie.Need-add-at
+add-at c = search needs
+
+add-put-amount : tie.Need-add-put-amount
+add-put-amount c = search needs
+
+sub-put-amount : tie.Need-sub-put-amount
+sub-put-amount c = search needs
+
+part-put-amount-start : tie.Need-part-put-amount-start
+part-put-amount-start c = search needs
+
+part-put-amount-end : tie.Need-part-put-amount-end
+part-put-amount-end c = search needs
+
+put-amount-requires : tie.Need-put-amount-requires
+put-amount-requires c κs =
+    let start = c .before .before in
+    let b = start .args .b .now in
+    let at = firstRow + start .args .i * rowLength in
+    let lent : at + rowLength - at ≡ rowLength = omega arith in
+    rw lent (length-take-le rowLength (drop at b) (omega (arith, start .pre .0, length-drop at b)), start .pre .1 .1)
+
+same-length : tie.Need-same-length
+same-length c = search needs
+
+returns : tie.Need-returns
+returns c =
+    let at-put = c .before .before in
+    let a = at-put .before .before .before .args in
+    let b = a .b .now in
+    let at = firstRow + a .i * rowLength in
+    let lent : at + rowLength - at ≡ rowLength = omega arith in
+    let row : List ℕ → Row = λ s. withAmount (recordIn rowKind s) (a .amount) in
+    part-written at rowLength (recordBytes rowKind (row (take rowLength (drop at b)))) b (at-put .put-amount .last .0) (length-row (row (take rowLength (drop at b))))
+    (at-put .put-amount .ensures ∙ ap (λ (n : ℕ). recordBytes rowKind (row (take n (drop at b)))) lent)
+
+pub replace-amount-spec : {M : Type 1} → statement M
+replace-amount-spec =
+    tie.close
+    (tie.spec
+    mul-at
+    add-at
+    add-put-amount
+    sub-put-amount
+    part-put-amount-start
+    part-put-amount-end
+    put-amount-requires
+    same-length
+    returns)
