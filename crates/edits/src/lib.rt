@@ -56,8 +56,8 @@ pub fn replace_amount(b: &mut [u8], i: usize, amount: u64)
     requires { ⌜ (length (now b) ≡ ledgerLength) × ((i < rowCount) × ((isTaken rowKind (take rowLength (drop (firstRow + i * rowLength) (now b))) ≡ true) × (amount < 2 ^ 50))) ⌝ }
     ensures { λ _. ⌜ now (b .exit) ≡ replaceAt (firstRow + i * rowLength) (recordBytes rowKind (withAmount (recordIn rowKind (take rowLength (drop (firstRow + i * rowLength) (now (b .entry))))) amount)) (now (b .entry)) ⌝ }
 {
-    let at = FIRST_ROW + i * ROW_LENGTH;
-    put_amount(&mut b[at..at + ROW_LENGTH], amount);
+    let start = FIRST_ROW + i * ROW_LENGTH;
+    put_amount(&mut b[start..start + ROW_LENGTH], amount);
 }
 
 // Writes the contract under the number c, whether or not that number was open.

@@ -16,11 +16,11 @@ use borrow.Author.Needs.{needs}
 use Rattle.edits.proofs.replace_amount.Statement.{statement}
 use Rattle.edits.proofs.replace_amount.Tie as tie
 
-mul-at : tie.Need-mul-at
-mul-at c = search needs
+mul-start : tie.Need-mul-start
+mul-start c = search needs
 
-add-at : tie.Need-add-at
-add-at c = search needs
+add-start : tie.Need-add-start
+add-start c = search needs
 
 add-put-amount : tie.Need-add-put-amount
 add-put-amount c = search needs
@@ -60,8 +60,8 @@ pub replace-amount-spec : {M : Type 1} → statement M
 replace-amount-spec =
     tie.close
     (tie.spec
-    mul-at
-    add-at
+    mul-start
+    add-start
     add-put-amount
     sub-put-amount
     part-put-amount-start
