@@ -31,6 +31,11 @@ unfolding cut
 are-cut k zero b h = tt
 are-cut k (suc n) b h = (are-take k b h, are-cut k n (drop k b) (are-drop k b h))
 
+pub join-append : (ps qs : List (List ℕ)) → join (ps ++ qs) ≡ join ps ++ join qs
+unfolding join
+join-append [] qs = refl
+join-append (p ∷ ps) qs = ap (λ (l : List ℕ). p ++ l) (join-append ps qs) ∙ sym (append-assoc p (join ps) (join qs))
+
 pub length-join : (k : ℕ) (ps : List (List ℕ)) → Parts k ps → length (join ps) ≡ length ps * k
 unfolding join
 length-join k [] a = omega arith
@@ -40,11 +45,6 @@ pub are-join : (ps : List (List ℕ)) → All AreBytes ps → AreBytes (join ps)
 unfolding join
 are-join [] a i = omega arith
 are-join (p ∷ ps) a i = are-append p (join ps) (a .0) (are-join ps (a .1)) i
-
-pub join-append : (ps qs : List (List ℕ)) → join (ps ++ qs) ≡ join ps ++ join qs
-unfolding join
-join-append [] qs = refl
-join-append (p ∷ ps) qs = ap (λ (l : List ℕ). p ++ l) (join-append ps qs) ∙ sym (append-assoc p (join ps) (join qs))
 
 -- cut and joined again
 pub join-cut : (k n : ℕ) (b : List ℕ) → join (cut k n b) ≡ take (n * k) b

@@ -9,8 +9,9 @@ ghost use mathlib.Core.Path.{_≡_};
 ghost use mathlib.Core.List.{List};
 ghost use Prim.Native.Nat.{ℕ, _≤_};
 ghost use lib.ListN.{length};
+ghost use Rattle.bill_refusals.specs.Requests.{billRequest};
 ghost use Rattle.session.specs.CommandGroups.{group};
-ghost use Rattle.session.specs.Replies.{holding, bookLength, priceLine, bookWith, reply, next};
+ghost use Rattle.session.specs.Replies.{holding, bookLength, priceLine, bookWith, request, reply, next};
 
 // The last index of the book.
 const LAST_ENTRY: u32 = 1739;
@@ -65,6 +66,20 @@ fn reply_on_claims(command: Command, ledger: &mut [u8], book: &mut [u32]) -> Lin
     }
 }
 
+// The numbers of a bill or rebill.
+fn request(contract: u32, first: u32, last: u32, kwh: u32, supply: u32, wap: u32) -> Request
+    ensures { λ r. ⌜ ((book : List ℕ) → billRequest r book ≡ request contract first last kwh supply wap book) ⌝ }
+{
+    Request {
+        contract,
+        first,
+        last,
+        kwh,
+        supply,
+        wap,
+    }
+}
+
 // bill, rebill and cancel.
 fn reply_on_bills(command: Command, ledger: &mut [u8], book: &mut [u32]) -> Line
     requires { ⌜ (length (now book) ≡ bookLength) × (1 ≤ group command) ⌝ }
@@ -79,15 +94,8 @@ fn reply_on_bills(command: Command, ledger: &mut [u8], book: &mut [u32]) -> Line
             supply,
             wap,
         } => {
-            let request = Request {
-                contract,
-                first,
-                last,
-                kwh,
-                supply,
-                wap,
-            };
-            line_of(bill_calls::bill(ledger, book, request))
+            let asked = request(contract, first, last, kwh, supply, wap);
+            line_of(bill_calls::bill(ledger, book, asked))
         }
         Command::Rebill {
             contract,
@@ -97,15 +105,8 @@ fn reply_on_bills(command: Command, ledger: &mut [u8], book: &mut [u32]) -> Line
             supply,
             wap,
         } => {
-            let request = Request {
-                contract,
-                first,
-                last,
-                kwh,
-                supply,
-                wap,
-            };
-            line_of(bill_calls::rebill(ledger, book, request))
+            let asked = request(contract, first, last, kwh, supply, wap);
+            line_of(bill_calls::rebill(ledger, book, asked))
         }
         Command::Cancel { contract, first } => {
             line_of(bill_calls::cancel(ledger, contract, first))

@@ -87,7 +87,7 @@ difference-requires c κs =
     let at-rows = c .before .before .before .before .before .before in
     let at-certify = at-rows .before .before in
     let passed = at-certify .before .before .before in
-    sums-low _ _ _ _ (accepted passed) _ _ (sound (passed .before .before .before .before)) _ (made at-certify) _ (at-rows .rerate-rows .ensures .0)
+    omega (arith, sums-low _ _ _ _ (accepted passed) _ _ (sound (passed .before .before .before .before)) _ (made at-certify) _ (at-rows .rerate-rows .ensures .0))
 
 same-length-3 : tie.Need-same-length-3
 same-length-3 c = search needs

@@ -1,15 +1,19 @@
 -- `reply_on_bills` replies to bill, rebill and cancel; any other command is of a later group.
 use mathlib.Core.List.{[], _∷_}
 use mathlib.Core.Path.{refl}
+use Rattle.model.specs.Calls.{callBill, callRebill}
 use Rattle.session.specs.Replies.{outcome}
 use borrow.Author.Needs.{needs}
 use Rattle.session.proofs.CommandGroups.{past-group}
-use Rattle.session.proofs.LedgerReplies.{line-said, ledger-left}
+use Rattle.session.proofs.LedgerReplies.{line-said, ledger-left, request-met}
 use Rattle.session.proofs.replies.reply_on_bills.Statement.{statement}
 use Rattle.session.proofs.replies.reply_on_bills.Tie as tie
 
 enum-known-command : tie.Need-enum-known-command
 enum-known-command c = search needs
+
+request-requires : tie.Need-request-requires
+request-requires c κs = search needs
 
 bill-requires : tie.Need-bill-requires
 bill-requires c κs = search needs
@@ -19,6 +23,9 @@ line-of-requires c κs = search needs
 
 enum-known-command-2 : tie.Need-enum-known-command-2
 enum-known-command-2 c = search needs
+
+request-requires-2 : tie.Need-request-requires-2
+request-requires-2 c κs = search needs
 
 rebill-requires : tie.Need-rebill-requires
 rebill-requires c κs = search needs
@@ -51,8 +58,9 @@ returns : tie.Need-returns
 unfolding outcome
 returns c =
     let d = c .before .before .before in
-    let k = d .before .before .before .before in
-    rw (k .command .given .1) (line-said (c .line-of .ensures) (d .bill .ensures .0), ledger-left (d .bill .ensures .1))
+    let k = d .before .before .before .before .before in
+    let made = request-met _ callBill (d .before .before .before .request .ensures _) (d .bill .ensures) in
+    rw (k .command .given .1) (line-said (c .line-of .ensures) (made .0), ledger-left (made .1))
 
 same-length-3 : tie.Need-same-length-3
 same-length-3 c = search needs
@@ -64,8 +72,9 @@ returns-2 : tie.Need-returns-2
 unfolding outcome
 returns-2 c =
     let d = c .before .before .before in
-    let k = d .before .before .before .before in
-    rw (k .command2 .given .1) (line-said (c .line-of2 .ensures) (d .rebill .ensures .0), ledger-left (d .rebill .ensures .1))
+    let k = d .before .before .before .before .before in
+    let made = request-met _ callRebill (d .before .before .before .request2 .ensures _) (d .rebill .ensures) in
+    rw (k .command2 .given .1) (line-said (c .line-of2 .ensures) (made .0), ledger-left (made .1))
 
 same-length-5 : tie.Need-same-length-5
 same-length-5 c = search needs
@@ -91,9 +100,11 @@ reply-on-bills-spec =
     tie.close
     (tie.spec
     enum-known-command
+    request-requires
     bill-requires
     line-of-requires
     enum-known-command-2
+    request-requires-2
     rebill-requires
     line-of-requires-2
     enum-known-command-3
