@@ -28,6 +28,7 @@ use Rattle.model.proofs.Places.{place-le, insert-at, remove-at, replace-at, amo
 use Rattle.model.proofs.StaysWellFormed.{new-row}
 use Rattle.layout.specs.Layout.{contractsIn, wellFormed, ledgerOf, bytesOf}
 use Rattle.layout.specs.PackedLedger.{rowKind, packedLayout}
+use Rattle.layout.specs.Offsets.{firstRow, rowLength}
 use Rattle.layout.proofs.PackedLedger.{packed-format, round-trips, row-fits}
 use Rattle.codec.specs.Slots.{recordBytes}
 use Rattle.edits.proofs.PackedChanges.{inserted-row, removed-row, replaced-row}
@@ -93,7 +94,7 @@ module _ (b : List ℕ) where
     pub bill-place : place ≤ rows
     bill-place = omega (arith, a .searched .count, place-le (rowPasses (After (q .contract) (q .first))) (l .rows))
 
-    pub bill-left : (d : List ℕ) → d ≡ onPart 328 (328 + (rows + 1) * 18) (insertAt (place * 18) (recordBytes rowKind new)) b
+    pub bill-left : (d : List ℕ) → d ≡ onPart firstRow (firstRow + (rows + 1) * rowLength) (insertAt (place * rowLength) (recordBytes rowKind new)) b
         → d ≡ bytesOf document01 packedLayout (accept document01 l (callBill q) .next)
     unfolding accept requestedBill billOf sortsAfter priced ledgerOf
     bill-left d e =
@@ -146,7 +147,7 @@ module _ (b : List ℕ) where
     abbrev old : ℕ
     old = placeOf (rowPasses (Named (q .contract) (q .first))) (l .rows)
 
-    pub rebill-left : (d : List ℕ) → d ≡ replaceAt (328 + old * 18) (recordBytes rowKind rebilled) b → d ≡ bytesOf document01 packedLayout (accept document01 l (callRebill q) .next)
+    pub rebill-left : (d : List ℕ) → d ≡ replaceAt (firstRow + old * rowLength) (recordBytes rowKind rebilled) b → d ≡ bytesOf document01 packedLayout (accept document01 l (callRebill q) .next)
     unfolding accept requestedBill billOf priced ledgerOf
     rebill-left d e =
         let inside : old < length (l .rows) = omega (arith, a .searched .count, named-place rows (q .contract) (q .first) (a .searched .formed) (a .searched .count) rebill-held) in
@@ -172,7 +173,7 @@ module _ (b : List ℕ) where
     abbrev gone : ℕ
     gone = placeOf (rowPasses (Named c first)) (l .rows)
 
-    pub cancel-left : (d : List ℕ) → d ≡ onPart 328 (328 + rows * 18) (removeAt (gone * 18) 18) b → d ≡ bytesOf document01 packedLayout (accept document01 l (callCancel c first) .next)
+    pub cancel-left : (d : List ℕ) → d ≡ onPart firstRow (firstRow + rows * rowLength) (removeAt (gone * rowLength) rowLength) b → d ≡ bytesOf document01 packedLayout (accept document01 l (callCancel c first) .next)
     unfolding accept
     cancel-left d e =
         removed-row l b d (sym (round-trips .bytes b (a .searched .formed))) rows gone (sym (a .searched .count)) (named-place rows c first (a .searched .formed) (a .searched .count) cancel-held)

@@ -11,6 +11,7 @@ use Rattle.model.specs.Ledger.{priced}
 use Rattle.model.specs.Document01.{document01}
 use Rattle.layout.specs.Layout.{contractsIn}
 use Rattle.layout.specs.PackedLedger.{rowKind, packedLayout}
+use Rattle.layout.specs.Offsets.{firstRow, rowLength}
 use Rattle.codec.specs.Slots.{recordBytes}
 use Rattle.ledger.proofs.HeldRows.{formed-length}
 use Rattle.bill_refusals.specs.Requests.{billRequest, billOf}
@@ -87,7 +88,7 @@ returns c =
     let rows = start .args .rows in
     let made = row-made (c .before .before .before .before .before .before .before .before) in
     let left = c .before .before .insert-row .ensures
-    ∙ ap₂ (λ (i : ℕ) (x : Row). onPart 328 (328 + (rows + 1) * 18) (insertAt (i * 18) (recordBytes rowKind x)) ledger) (c .before .before .before .before .first-row .ensures) made in
+    ∙ ap₂ (λ (i : ℕ) (x : Row). onPart firstRow (firstRow + (rows + 1) * rowLength) (insertAt (i * rowLength) (recordBytes rowKind x)) ledger) (c .before .before .before .before .first-row .ensures) made in
     (ap₂ (λ (x : Row) (n : ℕ). Billed (x .bill .reference) n (x .amount)) made (rate-made (c .before .before .before .before .before .before)) ∙ bill-answer ledger rows q a, bill-left ledger rows q a _ left)
 
 pub accept-bill-spec : {M : Type 1} → statement M

@@ -5,6 +5,7 @@ use native.Mathlib.Omega.{arith}
 use lib.IntN.{ℤ}
 use Rattle.records.specs.Edits.{removeAt, onPart}
 use Rattle.model.specs.declared.Answer.the-variants.{Cancelled}
+use Rattle.layout.specs.Offsets.{firstRow, rowLength}
 use Rattle.ledger.specs.Rows.{rowAt}
 use Rattle.ledger.proofs.HeldRows.{formed-length}
 use Rattle.signed.proofs.SignedDifferences.{signed-read}
@@ -65,7 +66,7 @@ returns c =
     let old = c .before .before .before .before .before .row-at .result in
     let read = c .before .before .before .before .before .row-at .ensures ∙ ap (rowAt ledger) (c .before .before .before .before .before .before .before .first-row .ensures) in
     let change = signed-read _ _ (record { sfits = c .difference .ok }) (c .difference .ensures) in
-    let left = c .before .before .before .remove-row .ensures ∙ ap (λ (i : ℕ). onPart 328 (328 + rows * 18) (removeAt (i * 18) 18) ledger) (c .before .before .before .before .before .before .before .first-row .ensures) in
+    let left = c .before .before .before .remove-row .ensures ∙ ap (λ (i : ℕ). onPart firstRow (firstRow + rows * rowLength) (removeAt (i * rowLength) rowLength) ledger) (c .before .before .before .before .before .before .before .first-row .ensures) in
     (ap (λ (z : ℤ). Cancelled z) change ∙ cancel-answer ledger rows n first a (old .amount) (named-amount ledger rows n first (a .searched .formed) (a .searched .count) (cancel-held ledger rows n first a) old read), cancel-left ledger rows n first a _ left)
 
 pub accept-cancel-spec : {M : Type 1} → statement M

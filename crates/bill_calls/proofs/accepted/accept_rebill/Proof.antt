@@ -13,6 +13,7 @@ use Rattle.model.specs.Ledger.{priced}
 use Rattle.model.specs.Document01.{document01}
 use Rattle.layout.specs.Layout.{contractsIn}
 use Rattle.layout.specs.PackedLedger.{rowKind, packedLayout}
+use Rattle.layout.specs.Offsets.{firstRow, rowLength}
 use Rattle.codec.specs.Slots.{recordBytes}
 use Rattle.ledger.specs.Rows.{rowAt}
 use Rattle.ledger.proofs.HeldRows.{formed-length}
@@ -115,7 +116,7 @@ returns c =
     let new = priced document01 (contract start) (billOf (contract start) q) in
     let change = signed-read _ _ (record { sfits = c .difference .ok }) (c .difference .ensures) ∙ ap (λ (x : Row). subℕ (x .amount) (old .amount)) made in
     let left = c .before .before .before .replace-row .ensures
-    ∙ ap₂ (λ (i : ℕ) (x : Row). replaceAt (328 + i * 18) (recordBytes rowKind x) ledger) (c .before .before .before .before .before .before .before .first-row .ensures) made in (
+    ∙ ap₂ (λ (i : ℕ) (x : Row). replaceAt (firstRow + i * rowLength) (recordBytes rowKind x) ledger) (c .before .before .before .before .before .before .before .first-row .ensures) made in (
       ap (λ (z : ℤ). Rebilled (c .before .before .before .before .before .before .before .before .before .before .before .row-of .result .bill .reference) (c .before .before .before .before .before .before .before .before .before .rate .result) z) change
           ∙ ap₂ (λ (x : Row) (n : ℕ). Rebilled (x .bill .reference) n (subℕ (new .amount) (old .amount))) made (rate-made (c .before .before .before .before .before .before .before .before .before))
           ∙ rebill-answer ledger rows q a (old .amount) (named-amount ledger rows (q .contract) (q .first) (a .searched .formed) (a .searched .count) (rebill-held ledger rows q a) old read),
