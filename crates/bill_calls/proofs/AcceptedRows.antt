@@ -28,6 +28,7 @@ use Rattle.model.proofs.Places.{place-le, insert-at, remove-at, replace-at, amo
 use Rattle.model.proofs.StaysWellFormed.{new-row}
 use Rattle.layout.specs.Layout.{contractsIn, wellFormed, ledgerOf, bytesOf}
 use Rattle.layout.specs.PackedLedger.{rowKind, packedLayout}
+use Rattle.layout.specs.Offsets.{firstRow, rowLength}
 use Rattle.layout.proofs.PackedLedger.{packed-format, round-trips, row-fits}
 use Rattle.codec.specs.Slots.{recordBytes}
 use Rattle.edits.proofs.PackedChanges.{inserted-row, removed-row, replaced-row}
@@ -99,10 +100,10 @@ module _ (b : List ℕ) where
     bill-place = omega (arith, a .searched .count, place-le (rowPasses (After (q .contract) (q .first))) (l .rows))
 
     pub bill-left : (d : List ℕ) (i : ℕ) (x : RatedRow) → i ≡ place → x ≡ ratedRow b q
-        → d ≡ onPart 328 (328 + (rows + 1) * 18) (insertAt (i * 18) (recordBytes rowKind (x .row))) b → d ≡ bytesOf document01 packedLayout (accept document01 l (callBill q) .next)
+        → d ≡ onPart firstRow (firstRow + (rows + 1) * rowLength) (insertAt (i * rowLength) (recordBytes rowKind (x .row))) b → d ≡ bytesOf document01 packedLayout (accept document01 l (callBill q) .next)
     unfolding accept requestedBill billOf sortsAfter priced ledgerOf
     bill-left d i x at made e =
-        let put = e ∙ ap₂ (λ (j : ℕ) (y : RatedRow). onPart 328 (328 + (rows + 1) * 18) (insertAt (j * 18) (recordBytes rowKind (y .row))) b) at made in
+        let put = e ∙ ap₂ (λ (j : ℕ) (y : RatedRow). onPart firstRow (firstRow + (rows + 1) * rowLength) (insertAt (j * rowLength) (recordBytes rowKind (y .row))) b) at made in
         inserted-row l b d (sym (round-trips .bytes b (a .searched .formed))) rows place (rowOf b q) (sym (a .searched .count)) bill-place bill-room put
         ∙ ap (λ (xs : List Row). bytesOf document01 packedLayout (withRows l xs)) (sym (insert-at (rowOf b q) (l .rows)))
 
@@ -147,11 +148,11 @@ module _ (b : List ℕ) where
     old = placeOf (rowPasses (Named (q .contract) (q .first))) (l .rows)
 
     pub rebill-left : (d : List ℕ) (i : ℕ) (x : RatedRow) → i ≡ old → x ≡ ratedRow b q
-        → d ≡ replaceAt (328 + i * 18) (recordBytes rowKind (x .row)) b → d ≡ bytesOf document01 packedLayout (accept document01 l (callRebill q) .next)
+        → d ≡ replaceAt (firstRow + i * rowLength) (recordBytes rowKind (x .row)) b → d ≡ bytesOf document01 packedLayout (accept document01 l (callRebill q) .next)
     unfolding accept requestedBill billOf priced ledgerOf
     rebill-left d i x at made e =
         let low : old < length (l .rows) = omega (arith, a .searched .count, named-place rows (q .contract) (q .first) (a .searched) rebill-held i at) in
-        let put = e ∙ ap₂ (λ (j : ℕ) (y : RatedRow). replaceAt (328 + j * 18) (recordBytes rowKind (y .row)) b) at made in
+        let put = e ∙ ap₂ (λ (j : ℕ) (y : RatedRow). replaceAt (firstRow + j * rowLength) (recordBytes rowKind (y .row)) b) at made in
         replaced-row l b d (sym (round-trips .bytes b (a .searched .formed))) old (rowOf b q) low (rows-most b (a .searched .formed)) put
         ∙ ap (λ (xs : List Row). bytesOf document01 packedLayout (withRows l xs)) (sym (replace-at (named (q .contract) (q .first)) (rowOf b q) (l .rows)))
 
@@ -171,11 +172,11 @@ module _ (b : List ℕ) where
     abbrev gone : ℕ
     gone = placeOf (rowPasses (Named c first)) (l .rows)
 
-    pub cancel-left : (d : List ℕ) (i : ℕ) → i ≡ gone → d ≡ onPart 328 (328 + rows * 18) (removeAt (i * 18) 18) b → d ≡ bytesOf document01 packedLayout (accept document01 l (callCancel c first) .next)
+    pub cancel-left : (d : List ℕ) (i : ℕ) → i ≡ gone → d ≡ onPart firstRow (firstRow + rows * rowLength) (removeAt (i * rowLength) rowLength) b → d ≡ bytesOf document01 packedLayout (accept document01 l (callCancel c first) .next)
     unfolding accept
     cancel-left d i at e =
         let low = named-place rows c first (a .searched) cancel-held gone refl in
-        removed-row l b d (sym (round-trips .bytes b (a .searched .formed))) rows gone (sym (a .searched .count)) (low .0) (low .1) (e ∙ ap (λ (j : ℕ). onPart 328 (328 + rows * 18) (removeAt (j * 18) 18) b) at)
+        removed-row l b d (sym (round-trips .bytes b (a .searched .formed))) rows gone (sym (a .searched .count)) (low .0) (low .1) (e ∙ ap (λ (j : ℕ). onPart firstRow (firstRow + rows * rowLength) (removeAt (j * rowLength) rowLength) b) at)
         ∙ ap (λ (xs : List Row). bytesOf document01 packedLayout (withRows l xs)) (sym (remove-at (named c first) (l .rows)))
 
     pub cancel-answer : (was : ℕ) (z : ℤ) → was ≡ amountOf (named c first) (l .rows) → z ≡ subℕ 0 was → Cancelled z ≡ accept document01 l (callCancel c first) .answers

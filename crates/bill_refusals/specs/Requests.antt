@@ -7,8 +7,7 @@ use lib.Dec.{leb, ltb}
 use Rattle.rates.specs.declared.Contract.{Contract}
 use Rattle.rates.specs.declared.Bill.{Bill}
 use Rattle.model.specs.Contracts.{contractAt, isOpen}
-use Rattle.model.specs.Book.{reference}
-use Rattle.model.specs.Calls.{Call, BillRequest, View, Test, _if_, named, sharing}
+use Rattle.model.specs.Calls.{Call, BillRequest, View, Test, _if_, named, sharing, billUnder}
 use Rattle.model.specs.Rules.{refusal}
 use Rattle.model.specs.Ledger.{view}
 use Rattle.model.specs.Document01.{document01, badBook, badNumber, badSpan, badAmounts, noPrice}
@@ -31,14 +30,7 @@ billRequest q book = record {
 
 -- the bill of a request under its contract
 unfoldable pub billOf : Contract → BillRequest → Bill
-billOf k q = record {
-  contract = q .contract;
-  first = q .first;
-  last = q .last;
-  kwh = q .kwh;
-  reference = reference k (q .first) (q .wap) (q .book);
-  supply = q .supply;
-}
+billOf k q = billUnder k q
 
 -- refusals 3 to 8, which bill and rebill share
 unfoldable pub sharedTests : View → BillRequest → List Test

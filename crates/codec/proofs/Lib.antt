@@ -1,4 +1,5 @@
 -- Laws that the proofs of this crate share.
+pub mod BillRanges
 pub mod ContractSlots
 pub mod Prefixes
 pub mod WholeSlots

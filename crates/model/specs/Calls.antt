@@ -4,6 +4,7 @@ use mathlib.Core.List.{List, [], _∷_}
 use Prim.Native.Nat.{ℕ}
 use lib.Dec.{leb, eqb}
 use lib.IntN.{ℤ, pos}
+use Rattle.rates.specs.declared.Contract.{Contract}
 use Rattle.rates.specs.declared.Bill.{Bill}
 use Rattle.model.specs.declared.Answer.{Answer}
 use Rattle.model.specs.declared.Answer.the-variants.{Refused, Done, Billed, Rebilled, Certified, Cancelled, Claimed, Reported, Totalled}
@@ -114,13 +115,16 @@ firstOf (t ∷ ts) = cond (t .fits) (t .number) (firstOf ts)
 
 -- ---- what an accepted call brings
 
--- the bill of a bill or rebill: R from its own book or WAP
-unfoldable pub requestedBill : Contracts → BillRequest → Bill
-requestedBill cs q = record {
+-- the bill of a bill or rebill under its contract: R from its own book or WAP
+abbrev pub billUnder : Contract → BillRequest → Bill
+billUnder k q = record {
   contract = q .contract;
   first = q .first;
   last = q .last;
   kwh = q .kwh;
-  reference = reference (contractAt cs (q .contract)) (q .first) (q .wap) (q .book);
+  reference = reference k (q .first) (q .wap) (q .book);
   supply = q .supply;
 }
+
+unfoldable pub requestedBill : Contracts → BillRequest → Bill
+requestedBill cs q = billUnder (contractAt cs (q .contract)) q

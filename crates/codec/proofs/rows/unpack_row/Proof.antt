@@ -8,7 +8,7 @@ use Rattle.codec.proofs.rows.unpack_row.Tie as tie
 
 returns : tie.Need-returns
 unfolding recordIn slotNumbers unpack fields
-returns c = rw (c .before .before .before .before .before .before .get .ensures, c .before .before .before .before .before .get2 .ensures, c .before .before .before .before .get3 .ensures, c .before .before .before .get4 .ensures, c .before .before .get5 .ensures, c .before .get6 .ensures, c .get7 .ensures)
+returns c = rw (c .before .before .before .before .before .before .get-window .ensures, c .before .before .before .before .before .get-window2 .ensures, c .before .before .before .before .get-window3 .ensures, c .before .before .before .get-window4 .ensures, c .before .before .get-window5 .ensures, c .before .get-window6 .ensures, c .get-window7 .ensures)
 
 -- each field lies in the slot
 pub unpack-row-spec : {M : Type 1} → statement M
