@@ -19,6 +19,7 @@ use Rattle.layout.specs.PackedLedger.{rowKind, packedLayout}
 use Rattle.layout.specs.Offsets.{ledgerLength, firstRow, rowLength}
 use Rattle.layout.proofs.PackedLedger.{packed-laws}
 use Rattle.codec.specs.Slots.{slotNumbers, recordBytes}
+use Rattle.codec.proofs.WholeSlots.{whole-fits}
 use Rattle.edits.proofs.PackedChanges.{length-row, replaced-row}
 use Rattle.ledger.specs.Check.{rowSlotAt}
 use Rattle.ledger.specs.Rows.{rowAt}
@@ -50,7 +51,7 @@ module _ (l : Ledger) (i : ℕ) (d : Row) (inside : i < length (l .rows)) (most 
   unfolding rowAt rowSlotAt slotNumbers recordBytes slotOut
   row-read n f =
       ap (λ (s : List ℕ). rowKind .of (recordFields rowKind (unpack (whole rowKind) s))) (slot-bytes n)
-      ∙ ap (λ (v : List ℕ). rowKind .of (recordFields rowKind v)) (unpack-pack (whole rowKind) (slotOut rowKind (some x)) aligned (omega arith, f))
+      ∙ ap (λ (v : List ℕ). rowKind .of (recordFields rowKind v)) (unpack-pack (whole rowKind) (slotOut rowKind (some x)) aligned (whole-fits rowKind x f))
     where
       aligned : WholeBytes (whole rowKind)
       aligned = packed-laws .row (l .contracts) .aligned
