@@ -21,6 +21,7 @@ use Rattle.layout.specs.PackedLedger.{rowKind, packedLayout}
 use Rattle.layout.specs.Offsets.{ledgerLength, firstRow, rowLength}
 use Rattle.layout.proofs.PackedLedger.{packed-laws}
 use Rattle.codec.specs.Slots.{slotNumbers, isTaken, recordBytes}
+use Rattle.codec.proofs.WholeSlots.{whole-fits}
 use Rattle.edits.proofs.PackedChanges.{length-row, replaced-row}
 use Rattle.ledger.specs.Check.{rowSlotAt}
 use Rattle.ledger.specs.Rows.{rowAt}
@@ -52,7 +53,7 @@ module _ (l : Ledger) (i : ℕ) (d : Row) (inside : i < length (l .rows)) (most 
   unfolding rowAt rowSlotAt slotNumbers recordBytes slotOut
   row-read n f =
       ap (λ (s : List ℕ). rowKind .of (recordFields rowKind (unpack (whole rowKind) s))) (slot-bytes n)
-      ∙ ap (λ (v : List ℕ). rowKind .of (recordFields rowKind v)) (unpack-pack (whole rowKind) (slotOut rowKind (some x)) aligned (omega arith, f))
+      ∙ ap (λ (v : List ℕ). rowKind .of (recordFields rowKind v)) (unpack-pack (whole rowKind) (slotOut rowKind (some x)) aligned (whole-fits rowKind x f))
     where
       aligned : WholeBytes (whole rowKind)
       aligned = packed-laws .row (l .contracts) .aligned
@@ -62,4 +63,4 @@ module _ (l : Ledger) (i : ℕ) (d : Row) (inside : i < length (l .rows)) (most 
   unfolding isTaken slotNumbers recordBytes slotOut
   row-taken n f =
       ap (λ (s : List ℕ). not (eqb (getD (unpack (whole rowKind) s) 0 0) 0)) (slot-bytes n)
-      ∙ ap (λ (v : List ℕ). not (eqb (getD v 0 0) 0)) (unpack-pack (whole rowKind) (slotOut rowKind (some x)) (packed-laws .row (l .contracts) .aligned) (omega arith, f))
+      ∙ ap (λ (v : List ℕ). not (eqb (getD v 0 0) 0)) (unpack-pack (whole rowKind) (slotOut rowKind (some x)) (packed-laws .row (l .contracts) .aligned) (whole-fits x f))
