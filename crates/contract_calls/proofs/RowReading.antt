@@ -63,4 +63,4 @@ module _ (l : Ledger) (i : ℕ) (d : Row) (inside : i < length (l .rows)) (most 
   unfolding isTaken slotNumbers recordBytes slotOut
   row-taken n f =
       ap (λ (s : List ℕ). not (eqb (getD (unpack (whole rowKind) s) 0 0) 0)) (slot-bytes n)
-      ∙ ap (λ (v : List ℕ). not (eqb (getD v 0 0) 0)) (unpack-pack (whole rowKind) (slotOut rowKind (some x)) (packed-laws .row (l .contracts) .aligned) (whole-fits x f))
+      ∙ ap (λ (v : List ℕ). not (eqb (getD v 0 0) 0)) (unpack-pack (whole rowKind) (slotOut rowKind (some x)) (packed-laws .row (l .contracts) .aligned) (whole-fits rowKind x f))

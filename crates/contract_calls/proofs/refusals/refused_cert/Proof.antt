@@ -1,5 +1,7 @@
 -- `refused_cert` is the first test that fits: by the tests on the way to each return.
-use mathlib.Core.Path.{sym, _∙_}
+use mathlib.Core.Path.{_≡_, sym, _∙_}
+use mathlib.Core.Bool.{true, false}
+use lib.Dec.{ltb}
 use borrow.Author.Tests.{lt-ltb, le-ltb}
 use Rattle.basics.proofs.Tests.{not-yes, not-no}
 use Rattle.model.specs.Rules.{refusal}
@@ -9,6 +11,13 @@ use Rattle.layout.specs.Layout.{ledgerOf}
 use borrow.Author.Needs.{needs}
 use Rattle.contract_calls.proofs.refusals.refused_cert.Statement.{statement}
 use Rattle.contract_calls.proofs.refusals.refused_cert.Tie as tie
+
+-- what the test of the class says, as the definition has it
+class-high : (c : tie.Then3) → ltb 2 (c .before .before .before .before .before .args .class) ≡ true
+class-high c = lt-ltb _ _ (c .if3 .taken)
+
+class-low : (c : tie.Else3) → ltb 2 (c .before .before .before .before .before .args .class) ≡ false
+class-low c = le-ltb _ _ (c .if3 .left)
 
 returns : tie.Need-returns
 unfolding refusal tests
@@ -25,7 +34,7 @@ returns-3 : tie.Need-returns-3
 unfolding refusal tests view ledgerOf
 returns-3 c =
     let at-open = c .before .before in
-    simp (le-ltb _ _ (at-open .before .if1 .left), sym (at-open .is-open .ensures) ∙ not-no _ (c .before .if2 .left), lt-ltb _ _ (c .if3 .taken))
+    simp (le-ltb _ _ (at-open .before .if1 .left), sym (at-open .is-open .ensures) ∙ not-no _ (c .before .if2 .left), class-high c)
 
 bad-effective-requires : tie.Need-bad-effective-requires
 bad-effective-requires c κs = search needs
@@ -36,7 +45,7 @@ returns-4 c =
     let at-class = c .before .before in
     let at-open = at-class .before .before in
     simp
-    (le-ltb _ _ (at-open .before .if1 .left), sym (at-open .is-open .ensures) ∙ not-no _ (at-class .before .if2 .left), le-ltb _ _ (at-class .if3 .left), sym (c .before .bad-effective .ensures) ∙ c .if4 .taken)
+    (le-ltb _ _ (at-open .before .if1 .left), sym (at-open .is-open .ensures) ∙ not-no _ (at-class .before .if2 .left), class-low at-class, sym (c .before .bad-effective .ensures) ∙ c .if4 .taken)
 
 returns-5 : tie.Need-returns-5
 unfolding refusal tests view ledgerOf
@@ -44,7 +53,7 @@ returns-5 c =
     let at-class = c .before .before in
     let at-open = at-class .before .before in
     simp
-    (le-ltb _ _ (at-open .before .if1 .left), sym (at-open .is-open .ensures) ∙ not-no _ (at-class .before .if2 .left), le-ltb _ _ (at-class .if3 .left), sym (c .before .bad-effective .ensures) ∙ c .if4 .left)
+    (le-ltb _ _ (at-open .before .if1 .left), sym (at-open .is-open .ensures) ∙ not-no _ (at-class .before .if2 .left), class-low at-class, sym (c .before .bad-effective .ensures) ∙ c .if4 .left)
 
 pub refused-cert-spec : {M : Type 1} → statement M
 refused-cert-spec =
