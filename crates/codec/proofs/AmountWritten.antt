@@ -5,11 +5,11 @@ use mathlib.Core.List.{List, [], _∷_, _++_, append-nil}
 use mathlib.Core.Option.{some}
 use Prim.Native.Nat.{ℕ, _+_, _<_, _^_}
 use native.Mathlib.Omega.{arith}
-use lib.ListN.{length, drop, getD, set}
+use lib.ListN.{length, take, drop, getD, set}
 use lib.Seq.{drop-length}
 use Rattle.basics.proofs.Tests.{not-yes, eq-no}
 use Rattle.fields.specs.Field.{fieldAt, setField, AreBytes}
-use Rattle.fields.specs.Fields.{Fit, fields}
+use Rattle.fields.specs.Fields.{Fit, fields, sum}
 use Rattle.fields.proofs.Laws.{field-lt, fields-fit}
 use Rattle.records.specs.Pack.{size, pack, unpack}
 use Rattle.records.specs.Slots.{whole, slotOut}
@@ -33,8 +33,12 @@ module _ (s : List ℕ) (a : ℕ) (are : AreBytes s) (long : length s ≡ rowLen
   unfolding isTaken slotNumbers unpack fields
   held-bit = let some-bit = eq-no (fieldAt s 0 1) 0 (not-yes _ taken) in omega (arith, field-lt s 0 1)
 
+  -- the amount is the last of the slot's numbers
+  abbrev last : ℕ
+  last = length (rowKind .widths)
+
   numbers : List ℕ
-  numbers = set (fields s 0 (whole rowKind)) 7 a
+  numbers = set (fields s 0 (whole rowKind)) last a
 
   numbers-fit : Fit (whole rowKind) numbers
   unfolding numbers fields
@@ -44,9 +48,9 @@ module _ (s : List ℕ) (a : ℕ) (are : AreBytes s) (long : length s ≡ rowLen
   unfolding numbers slotOut recordIn slotNumbers unpack fields
   numbers-of-row = rw held-bit
 
-  pub amount-written : setField s 94 50 a ≡ recordBytes rowKind (withAmount (recordIn rowKind s) a)
+  pub amount-written : setField s (sum (take last (whole rowKind))) (getD (whole rowKind) last 0) a ≡ recordBytes rowKind (withAmount (recordIn rowKind s) a)
   unfolding numbers recordBytes size
   amount-written =
-      setField-within s 0 (whole rowKind) 7 a are refl (omega arith) (omega arith) numbers-fit
+      setField-within s 0 (whole rowKind) last a are refl (omega arith) (omega arith) numbers-fit
       ∙ replaced-all (pack (whole rowKind) numbers) s (length-pack (whole rowKind) numbers ∙ sym long)
       ∙ ap (pack (whole rowKind)) numbers-of-row

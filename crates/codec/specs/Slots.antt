@@ -1,12 +1,12 @@
--- One slot's bytes: whether it is taken, whether its zeros are zeros, the record that it holds, and the bytes that hold a record. Assumes nothing.
+-- One slot's bytes: whether it is taken, the record that it holds, and the bytes that hold a record. Assumes nothing.
 use mathlib.Core.Bool.{Bool, not}
 use mathlib.Core.List.{List}
 use mathlib.Core.Option.{some}
-use Prim.Native.Nat.{ℕ, suc}
+use Prim.Native.Nat.{ℕ}
 use lib.Dec.{eqb}
-use lib.ListN.{length, drop, getD}
+use lib.ListN.{getD}
 use Rattle.records.specs.Pack.{unpack}
-use Rattle.records.specs.Slots.{Kind, allZero, whole, recordFields, slotBytes}
+use Rattle.records.specs.Slots.{Kind, whole, recordFields, slotBytes}
 
 module _ {A : Type 0} (k : Kind A) where
   -- the numbers of the slot
@@ -16,10 +16,6 @@ module _ {A : Type 0} (k : Kind A) where
   -- its first bit is set
   unfoldable pub isTaken : List ℕ → Bool
   isTaken s = not (eqb (getD (slotNumbers s) 0 0) 0)
-
-  -- the zeros after its fields are zeros
-  unfoldable pub paddingZero : List ℕ → Bool
-  paddingZero s = allZero (drop (suc (length (k .widths))) (slotNumbers s))
 
   -- the record of its fields
   unfoldable pub recordIn : List ℕ → A

@@ -14,7 +14,7 @@ ghost use Rattle.fields.specs.Fields.{Fit};
 ghost use Rattle.records.specs.Slots.{blank};
 ghost use Rattle.layout.specs.PackedLedger.{rowKind};
 ghost use Rattle.layout.specs.Offsets.{rowLength};
-ghost use Rattle.codec.specs.Slots.{isTaken, recordIn, recordBytes, paddingZero};
+ghost use Rattle.codec.specs.Slots.{isTaken, recordIn, recordBytes};
 
 // The widths of the fields, in bits.
 const CONTRACT_BITS: usize = 6;
@@ -67,14 +67,6 @@ pub fn is_held(s: &[u8]) -> bool
     ensures { λ r. ⌜ r ≡ isTaken rowKind (now (s .entry)) ⌝ }
 {
     get_window(s, 0, 0, 1) != 0
-}
-
-// Whether the bits after a slot's fields are zeros. The fields of document 01's rows fill their bytes, so that there are none.
-pub fn padding_zero(s: &[u8]) -> bool
-    requires { ⌜ length (now s) ≡ rowLength ⌝ }
-    ensures { λ r. ⌜ r ≡ paddingZero rowKind (now (s .entry)) ⌝ }
-{
-    true
 }
 
 // The row that a slot holds.

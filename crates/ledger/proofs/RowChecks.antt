@@ -40,10 +40,6 @@ module _ (cs : Contracts) (least : ℕ) (v : List ℕ) where
 
   module _ (taken : eqb (getD v 0 0) 0 ≡ false) where
     -- a held slot's test, by its zeros and its row
-    pub check-padding : allZero (drop (suc (length (rowKind .widths))) v) ≡ false → Bad ≡ rowCheckOf cs least v
-    unfolding rowCheckOf slotOk
-    check-padding z = rw (taken, z)
-
     module _ (zeros : allZero (drop (suc (length (rowKind .widths))) v) ≡ true) (x : Row) (row : x ≡ rowOf v) where
       pub check-bad : rowOk document01 cs x ≡ false → Bad ≡ rowCheckOf cs least v
       unfolding rowCheckOf slotOk
@@ -103,6 +99,11 @@ module _ (cs : Contracts) (least : ℕ) (v : List ℕ) where
 module _ (b : List ℕ) (i : ℕ) where
   abbrev slot : List ℕ
   slot = take rowLength (drop (firstRow + i * rowLength) b)
+
+  -- the fields fill the slot: there are no zeros after them
+  pub no-padding : allZero (drop (suc (length (rowKind .widths))) (rowSlotAt b i)) ≡ true
+  unfolding rowSlotAt slotNumbers unpack fields
+  no-padding = refl
 
   pub row-amount-low : rowOf (rowSlotAt b i) .amount < 2 ^ 50
   unfolding rowSlotAt slotNumbers unpack fields

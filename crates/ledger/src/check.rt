@@ -98,9 +98,6 @@ fn check_row(b: &[u8], i: usize, least: u32) -> RowCheck
     if !codec::rows::is_held(slot) {
         return RowCheck::Free;
     }
-    if !codec::rows::padding_zero(slot) {
-        return RowCheck::Bad;
-    }
     let row = codec::rows::unpack_row(slot);
     if !row_ok(b, row) {
         return RowCheck::Bad;

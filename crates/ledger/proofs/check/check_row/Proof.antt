@@ -1,19 +1,18 @@
 -- `check_row` checks one slot: by the tests on the way to each return.
 use mathlib.Core.Path.{_≡_, sym, ap, _∙_}
-use mathlib.Core.Bool.{true, false, not}
+use mathlib.Core.Bool.{false, not}
 use mathlib.Core.List.{List}
-use Prim.Native.Nat.{ℕ, suc, _+_, _-_, _*_, _<_}
+use Prim.Native.Nat.{ℕ, _+_, _-_, _*_, _<_}
 use native.Mathlib.Omega.{arith}
 use lib.Dec.{eqb}
-use lib.ListN.{length, take, drop, getD}
+use lib.ListN.{take, drop, getD}
 use Rattle.basics.proofs.Tests.{not-yes, not-no}
-use Rattle.records.specs.Slots.{allZero}
 use Rattle.model.specs.declared.Row.{Row}
 use Rattle.layout.specs.PackedLedger.{rowKind}
 use Rattle.layout.specs.Offsets.{firstRow, rowLength}
-use Rattle.codec.specs.Slots.{isTaken, recordIn, paddingZero}
+use Rattle.codec.specs.Slots.{isTaken, recordIn}
 use Rattle.ledger.specs.Check.{rowSlotAt}
-use Rattle.ledger.proofs.RowChecks.{check-free, check-padding, check-bad, check-early, check-good, row-contract-low, row-days-low}
+use Rattle.ledger.proofs.RowChecks.{check-free, check-bad, check-early, check-good, row-contract-low, row-days-low, no-padding}
 use Rattle.ledger.proofs.Scan.{rowOf}
 use borrow.Author.Needs.{needs}
 use Rattle.ledger.proofs.check.check_row.Statement.{statement}
@@ -23,26 +22,14 @@ use Rattle.ledger.proofs.check.check_row.Tie as tie
 slot-lent : (b : List ℕ) (i : ℕ) → take (firstRow + i * rowLength + rowLength - (firstRow + i * rowLength)) (drop (firstRow + i * rowLength) b) ≡ take rowLength (drop (firstRow + i * rowLength) b)
 slot-lent b i = let e : firstRow + i * rowLength + rowLength - (firstRow + i * rowLength) ≡ rowLength = omega arith in ap (λ (n : ℕ). take n (drop (firstRow + i * rowLength) b)) e
 
--- its numbers
-abbrev numbers : tie.After-is-held → List ℕ
-numbers c = rowSlotAt (c .before .before .before .args .b .now) (c .before .before .before .args .i)
-
--- whether it is held, whether its zeros are zeros, and the row that it holds
-held-is : (c : tie.After-is-held) → c .is-held .result ≡ not (eqb (getD (numbers c) 0 0) 0)
+-- whether it is held, and the row that it holds
+held-is : (c : tie.After-is-held) → c .is-held .result ≡ not (eqb (getD (rowSlotAt (c .before .before .before .args .b .now) (c .before .before .before .args .i)) 0 0) 0)
 unfolding isTaken rowSlotAt
 held-is c = c .is-held .ensures ∙ ap (isTaken rowKind) (slot-lent (c .before .before .before .args .b .now) (c .before .before .before .args .i))
 
-padding-is : (c : tie.After-padding-zero) → c .padding-zero .result ≡ allZero (drop (suc (length (rowKind .widths))) (numbers (c .before .before)))
-unfolding paddingZero rowSlotAt
-padding-is c =
-    let start = c .before .before .before .before .before in
-    c .padding-zero .ensures ∙ ap (paddingZero rowKind) (slot-lent (start .args .b .now) (start .args .i))
-
-row-is : (c : tie.After-unpack-row) → c .unpack-row .result ≡ rowOf (numbers (c .before .before .before .before))
+row-is : (c : tie.After-unpack-row) → c .unpack-row .result ≡ rowOf (rowSlotAt (c .before .before .before .before .before .args .b .now) (c .before .before .before .before .before .args .i))
 unfolding recordIn rowSlotAt
-row-is c =
-    let start = c .before .before .before .before .before .before .before in
-    c .unpack-row .ensures ∙ ap (recordIn rowKind) (slot-lent (start .args .b .now) (start .args .i))
+row-is c = c .unpack-row .ensures ∙ ap (recordIn rowKind) (slot-lent (c .before .before .before .before .before .args .b .now) (c .before .before .before .before .before .args .i))
 
 -- the ranges of its contract and days
 record Low (x : Row) : Type 0 where
@@ -52,15 +39,12 @@ record Low (x : Row) : Type 0 where
 
 row-low : (c : tie.After-unpack-row) → Low (c .unpack-row .result)
 row-low c =
-    let b = c .before .before .before .before .before .before .before .args .b .now in
-    let i = c .before .before .before .before .before .before .before .args .i in
+    let b = c .before .before .before .before .before .args .b .now in
+    let i = c .before .before .before .before .before .args .i in
     rw (row-is c) (record { contract = row-contract-low b i; first = row-days-low b i .0; last = row-days-low b i .1 })
 
-taken-is : (c : tie.Else1) → eqb (getD (numbers (c .before)) 0 0) 0 ≡ false
+taken-is : (c : tie.Else1) → eqb (getD (rowSlotAt (c .before .before .before .before .args .b .now) (c .before .before .before .before .args .i)) 0 0) 0 ≡ false
 taken-is c = not-yes _ (sym (held-is (c .before)) ∙ not-no _ (c .if1 .left))
-
-zeros-are : (c : tie.Else2) → allZero (drop (suc (length (rowKind .widths))) (numbers (c .before .before .before))) ≡ true
-zeros-are c = sym (padding-is (c .before)) ∙ not-no _ (c .if2 .left)
 
 mul-at : tie.Need-mul-at
 mul-at c = search needs
@@ -86,29 +70,23 @@ is-held-requires c κs = search needs
 returns : tie.Need-returns
 returns c = check-free _ _ _ (not-no _ (sym (held-is (c .before)) ∙ not-yes _ (c .if1 .taken)))
 
-padding-zero-requires : tie.Need-padding-zero-requires
-padding-zero-requires c κs = search needs
-
-returns-2 : tie.Need-returns-2
-returns-2 c = check-padding _ _ _ (taken-is (c .before .before)) (sym (padding-is (c .before)) ∙ not-yes _ (c .if2 .taken))
-
 unpack-row-requires : tie.Need-unpack-row-requires
 unpack-row-requires c κs = search needs
 
 row-ok-requires : tie.Need-row-ok-requires
-row-ok-requires c κs = (c .before .before .before .before .before .before .before .pre .0, row-low c .contract)
+row-ok-requires c κs = (c .before .before .before .before .before .pre .0, row-low c .contract)
+
+returns-2 : tie.Need-returns-2
+returns-2 c = check-bad _ _ _ (taken-is (c .before .before .before)) (no-padding _ _) _ (row-is (c .before .before)) (sym (c .before .row-ok .ensures) ∙ not-yes _ (c .if2 .taken))
+
+mul-if3 : tie.Need-mul-if3
+mul-if3 c = let low = row-low (c .before .before .before .before) in record { fits = omega arith }
+
+add-if3 : tie.Need-add-if3
+add-if3 c = let low = row-low (c .before .before .before .before .before) in record { fits = omega arith }
 
 returns-3 : tie.Need-returns-3
-returns-3 c = check-bad _ _ _ (taken-is (c .before .before .before .before .before)) (zeros-are (c .before .before .before)) _ (row-is (c .before .before)) (sym (c .before .row-ok .ensures) ∙ not-yes _ (c .if3 .taken))
-
-mul-if4 : tie.Need-mul-if4
-mul-if4 c = let low = row-low (c .before .before .before .before) in record { fits = omega arith }
-
-add-if4 : tie.Need-add-if4
-add-if4 c = let low = row-low (c .before .before .before .before .before) in record { fits = omega arith }
-
-returns-4 : tie.Need-returns-4
-returns-4 c = check-early _ _ _ (taken-is (c .before .before .before .before .before .before .before .before .before)) (zeros-are (c .before .before .before .before .before .before .before)) _ (row-is (c .before .before .before .before .before .before)) (sym (c .before .before .before .before .before .row-ok .ensures) ∙ not-no _ (c .before .before .before .before .if3 .left)) (c .if4 .taken)
+returns-3 c = check-early _ _ _ (taken-is (c .before .before .before .before .before .before .before)) (no-padding _ _) _ (row-is (c .before .before .before .before .before .before)) (sym (c .before .before .before .before .before .row-ok .ensures) ∙ not-no _ (c .before .before .before .before .if2 .left)) (c .if3 .taken)
 
 mul-t14 : tie.Need-mul-t14
 mul-t14 c = let low = row-low (c .before .before .before .before .before .before .before) in record { fits = omega arith }
@@ -119,8 +97,8 @@ add-t15 c = let low = row-low (c .before .before .before .before .before .before
 add-t16 : tie.Need-add-t16
 add-t16 c = let low = row-low (c .before .before .before .before .before .before .before .before) in record { fits = omega arith }
 
-returns-5 : tie.Need-returns-5
-returns-5 c = check-good _ _ _ (taken-is (c .before .before .before .before .before .before .before .before .before .before .before)) (zeros-are (c .before .before .before .before .before .before .before .before .before)) _ (row-is (c .before .before .before .before .before .before .before .before)) (sym (c .before .before .before .before .before .before .before .row-ok .ensures) ∙ not-no _ (c .before .before .before .before .before .before .if3 .left)) (c .before .before .if4 .left)
+returns-4 : tie.Need-returns-4
+returns-4 c = check-good _ _ _ (taken-is (c .before .before .before .before .before .before .before .before .before)) (no-padding _ _) _ (row-is (c .before .before .before .before .before .before .before .before)) (sym (c .before .before .before .before .before .before .before .row-ok .ensures) ∙ not-no _ (c .before .before .before .before .before .before .if2 .left)) (c .before .before .if3 .left)
 
 pub check-row-spec : {M : Type 1} → statement M
 check-row-spec =
@@ -134,15 +112,13 @@ check-row-spec =
     part-slot-end
     is-held-requires
     returns
-    padding-zero-requires
-    returns-2
     unpack-row-requires
     row-ok-requires
+    returns-2
+    mul-if3
+    add-if3
     returns-3
-    mul-if4
-    add-if4
-    returns-4
     mul-t14
     add-t15
     add-t16
-    returns-5)
+    returns-4)
