@@ -13,6 +13,7 @@ use Rattle.model.specs.Ledger.{priced}
 use Rattle.model.specs.Document01.{document01}
 use Rattle.layout.specs.Layout.{contractsIn}
 use Rattle.layout.specs.PackedLedger.{packedLayout}
+use Rattle.layout.specs.Offsets.{contractCount, ledgerLength}
 use Rattle.bill_refusals.specs.Requests.{billOf}
 use Rattle.bill_calls.specs.declared.accepted.RatedRow.{RatedRow}
 
@@ -29,8 +30,8 @@ ratedRow b q = record { row = rowOf b q; rate = rate (contractOf b q) (rowOf b q
 
 -- a request that names an open contract, with its numbers in range
 pub record Rateable (b : List ℕ) (q : BillRequest) : Type 0 where
-  pub sized : length b ≡ 18760
-  pub number : q .contract < 64
+  pub sized : length b ≡ ledgerLength
+  pub number : q .contract < contractCount
   pub isOpened : isOpen (contractsIn document01 packedLayout b) (q .contract) ≡ true
   pub kwh : q .kwh ≤ 100000000
   pub supply : q .supply ≤ 999999
