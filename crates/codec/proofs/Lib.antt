@@ -4,3 +4,4 @@ pub mod ContractSlots
 pub mod Prefixes
 pub mod WholeSlots
 pub mod AmountWritten
+pub mod NarrowFields

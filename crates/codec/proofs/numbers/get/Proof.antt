@@ -1,8 +1,5 @@
 -- `get` reads a field: it has at most 32 bits, so it fits.
-use Prim.Native.Nat.{_^_, _<_, _≤_}
-use native.Mathlib.Omega.{arith}
-use lib.Pow.{pow-mono}
-use Rattle.fields.proofs.Laws.{field-lt}
+use Rattle.codec.proofs.NarrowFields.{narrow}
 use borrow.Author.Needs.{needs}
 use Rattle.codec.proofs.numbers.get.Statement.{statement}
 use Rattle.codec.proofs.numbers.get.Tie as tie
@@ -13,9 +10,7 @@ get-requires c κs = search needs
 cast-result : tie.Need-cast-result
 cast-result c =
     let start = c .before .before in
-    let low : c .get .result < 2 ^ start .args .w = rw (c .get .ensures) (field-lt (start .args .s .now) (start .args .at) (start .args .w)) in
-    let narrow : 2 ^ start .args .w ≤ 2 ^ 32 = pow-mono (start .pre .1 .0) in
-    record { fits = omega arith }
+    narrow (start .args .s .now) (start .args .at) (start .args .w) (c .get .result) (start .pre .1 .0) (c .get .ensures)
 
 returns : tie.Need-returns
 returns c = search needs
