@@ -5,9 +5,6 @@ use Rattle.calendar.specs.Answers.{dateAnswer}
 use Rattle.calendar.proofs.date.Statement.{statement}
 use Rattle.calendar.proofs.date.Tie as tie
 
-date-of-requires : tie.Need-date-of-requires
-date-of-requires c κs = search needs
-
 returns : tie.Need-returns
 unfolding dateAnswer
 returns c = rw (lt-ltb _ _ (c .before .if1 .taken), c .date-of .ensures)
@@ -17,4 +14,4 @@ unfolding dateAnswer
 returns-2 c = rw (le-ltb _ _ (c .if1 .left))
 
 pub date-spec : {M : Type 1} → statement M
-date-spec = tie.close (tie.spec date-of-requires returns returns-2)
+date-spec = tie.close (tie.spec (λ c κs. search needs) returns returns-2)

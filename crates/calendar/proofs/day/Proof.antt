@@ -21,23 +21,11 @@ abbrev μ-loop : tie.MeasureT-loop
 loop-holds : tie.Need-loop-holds Inv-loop μ-loop
 loop-holds c = (search needs, below-none _)
 
-date-of-requires : tie.Need-date-of-requires Inv-loop μ-loop
-date-of-requires c κs = search needs
-
-same-date-requires : tie.Need-same-date-requires Inv-loop μ-loop
-same-date-requires c κs = search needs
-
 returns : tie.Need-returns Inv-loop μ-loop
 returns c =
     let passed = c .before .before .before .before .loop in
     let equal = same-equal _ _ (sym (c .before .same-date .ensures) ∙ c .if1 .taken) ∙ c .before .before .date-of .ensures in
     sym (first-answered _ _ _ (passed .number) (search needs) (passed .inv .1) (sym equal))
-
-add-number : tie.Need-add-number Inv-loop μ-loop
-add-number c = search needs
-
-loop-less : tie.Need-loop-less Inv-loop μ-loop
-loop-less c = search needs
 
 loop-again : tie.Need-loop-again Inv-loop μ-loop
 loop-again c = (
@@ -56,10 +44,10 @@ day-spec =
     Inv-loop
     μ-loop
     loop-holds
-    date-of-requires
-    same-date-requires
+    (λ c κs. search needs)
+    (λ c κs. search needs)
     returns
-    add-number
-    loop-less
+    (λ c. search needs)
+    (λ c. search needs)
     loop-again
     returns-2)

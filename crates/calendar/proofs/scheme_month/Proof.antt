@@ -21,9 +21,6 @@ returns : tie.Need-returns
 unfolding schemeMonth
 returns c = ap schemeMonthOf (sym (past-table (c .before .args .day) (c .if1 .taken)))
 
-date-of-requires : tie.Need-date-of-requires
-date-of-requires c κs = search needs
-
 mul-months : tie.Need-mul-months
 mul-months c = omega (arith, months-bounded _ (c .before .date-of .ensures))
 
@@ -40,4 +37,4 @@ returns-3 c = ap schemeMonthOf (c .before .before .before .date-of .ensures)
 
 pub scheme-month-spec : {M : Type 1} → statement M
 scheme-month-spec =
-    tie.close (tie.spec returns date-of-requires mul-months add-months returns-2 returns-3)
+    tie.close (tie.spec returns (λ c κs. search needs) mul-months add-months returns-2 returns-3)

@@ -67,20 +67,11 @@ module _ (c : tie.After-struct-known Inv-loop μ-loop) where
 add-count : tie.Need-add-count Inv-loop μ-loop
 add-count c = let r = this (c .before) (c .if1 .taken) in record { fits = omega (arith, low (c .before) _ _ _ _ r .0) }
 
-cast-kwh : tie.Need-cast-kwh Inv-loop μ-loop
-cast-kwh c = search needs
-
 add-kwh : tie.Need-add-kwh Inv-loop μ-loop
 add-kwh c = let r = this (c .before .before) (c .before .if1 .taken) in record { fits = omega (arith, low (c .before .before) _ _ _ _ r .1 .0) }
 
 add-due : tie.Need-add-due Inv-loop μ-loop
 add-due c = let r = this (c .before .before .before) (c .before .before .if1 .taken) in record { fits = omega (arith, low (c .before .before .before) _ _ _ _ r .1 .1) }
-
-add-i : tie.Need-add-i Inv-loop μ-loop
-add-i c = search needs
-
-loop-less : tie.Need-loop-less Inv-loop μ-loop
-loop-less c = search needs
 
 loop-again : tie.Need-loop-again Inv-loop μ-loop
 loop-again c =
@@ -106,10 +97,10 @@ accepted-report-spec =
     loop-holds
     row-at-requires
     add-count
-    cast-kwh
+    (λ c. search needs)
     add-kwh
     add-due
-    add-i
-    loop-less
+    (λ c. search needs)
+    (λ c. search needs)
     loop-again
     returns)

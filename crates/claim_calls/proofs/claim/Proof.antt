@@ -12,18 +12,6 @@ use borrow.Author.Needs.{needs}
 use Rattle.claim_calls.proofs.claim.Statement.{statement}
 use Rattle.claim_calls.proofs.claim.Tie as tie
 
-check-requires : tie.Need-check-requires
-check-requires c κs = search needs
-
-enum-known-due : tie.Need-enum-known-due
-enum-known-due c = search needs
-
-enum-told : tie.Need-enum-told
-enum-told c = search needs
-
-same-length : tie.Need-same-length
-same-length c = search needs
-
 returns : tie.Need-returns
 returns c =
     let at-check = c .before .before in
@@ -37,9 +25,6 @@ sound c = check-sound _ _ _ (sym (c .before .due .given .1) ∙ c .before .befor
 claims-requires : tie.Need-claims-requires
 claims-requires c κs = header-there _ (sound (c .before))
 
-same-length-2 : tie.Need-same-length-2
-same-length-2 c = search needs
-
 returns-2 : tie.Need-returns-2
 returns-2 c =
     let at-claims = c .before in
@@ -50,9 +35,6 @@ territory-requires c κs = header-there _ (sound (c .before .before .before .bef
 
 pence-requires : tie.Need-pence-requires
 pence-requires c κs = header-there _ (sound (c .before .before .before .before .before .before))
-
-cast-rest : tie.Need-cast-rest
-cast-rest c = search needs
 
 -- the header as it is read
 module _ (c : tie.After-pence) where
@@ -76,9 +58,6 @@ module _ (c : tie.After-pence) where
       let s = sound at-known in
       (territory-fits _ s _ (at-territory .territory .ensures), (pence-fits _ s _ (c .pence .ensures), due-fits _ s))
 
-add-write-header : tie.Need-add-write-header
-add-write-header c = search needs
-
 write-header-requires : tie.Need-write-header-requires
 write-header-requires c κs =
     let f = low (c .before) in
@@ -86,9 +65,6 @@ write-header-requires c κs =
 
 difference-requires : tie.Need-difference-requires
 difference-requires c κs = let f = low (c .before .before .before .before) in (omega arith, omega arith)
-
-same-length-3 : tie.Need-same-length-3
-same-length-3 c = search needs
 
 returns-3 : tie.Need-returns-3
 returns-3 c =
@@ -101,19 +77,19 @@ pub claim-spec : {M : Type 1} → statement M
 claim-spec =
     tie.close
     (tie.spec
-    check-requires
-    enum-known-due
-    enum-told
-    same-length
+    (λ c κs. search needs)
+    (λ c. search needs)
+    (λ c. search needs)
+    (λ c. search needs)
     returns
     claims-requires
-    same-length-2
+    (λ c. search needs)
     returns-2
     territory-requires
     pence-requires
-    cast-rest
-    add-write-header
+    (λ c. search needs)
+    (λ c. search needs)
     write-header-requires
     difference-requires
-    same-length-3
+    (λ c. search needs)
     returns-3)

@@ -9,15 +9,6 @@ use borrow.Author.Needs.{needs}
 use Rattle.claim_calls.proofs.report.Statement.{statement}
 use Rattle.claim_calls.proofs.report.Tie as tie
 
-check-requires : tie.Need-check-requires
-check-requires c κs = search needs
-
-enum-known-rows : tie.Need-enum-known-rows
-enum-known-rows c = search needs
-
-enum-told : tie.Need-enum-told
-enum-told c = search needs
-
 returns : tie.Need-returns
 returns c =
     let at-check = c .before .before in
@@ -39,9 +30,6 @@ returns-3 c =
     let at-number = c .before .before in
     sym (report-not-open _ _ (sound (at-number .before) .formed) (at-number .if1 .left) (sym (c .before .is-open .ensures) ∙ not-yes _ (c .if2 .taken)) .answered)
 
-cast-accepted-report : tie.Need-cast-accepted-report
-cast-accepted-report c = search needs
-
 accepted-report-requires : tie.Need-accepted-report-requires
 accepted-report-requires c κs = searched _ (sound (c .before .before .before))
 
@@ -56,13 +44,13 @@ pub report-spec : {M : Type 1} → statement M
 report-spec =
     tie.close
     (tie.spec
-    check-requires
-    enum-known-rows
-    enum-told
+    (λ c κs. search needs)
+    (λ c. search needs)
+    (λ c. search needs)
     returns
     returns-2
     is-open-requires
     returns-3
-    cast-accepted-report
+    (λ c. search needs)
     accepted-report-requires
     returns-4)

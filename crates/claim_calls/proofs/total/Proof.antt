@@ -10,15 +10,6 @@ use borrow.Author.Needs.{needs}
 use Rattle.claim_calls.proofs.total.Statement.{statement}
 use Rattle.claim_calls.proofs.total.Tie as tie
 
-check-requires : tie.Need-check-requires
-check-requires c κs = search needs
-
-enum-known-due : tie.Need-enum-known-due
-enum-known-due c = search needs
-
-enum-told : tie.Need-enum-told
-enum-told c = search needs
-
 returns : tie.Need-returns
 returns c =
     let at-check = c .before .before in
@@ -52,9 +43,9 @@ pub total-spec : {M : Type 1} → statement M
 total-spec =
     tie.close
     (tie.spec
-    check-requires
-    enum-known-due
-    enum-told
+    (λ c κs. search needs)
+    (λ c. search needs)
+    (λ c. search needs)
     returns
     pence-requires
     mul-claimed

@@ -35,26 +35,11 @@ made c =
     let a = c .before .before .before .before .before .before .before .before .before .before .before .before .args in
     c .certify .ensures ∙ ap (λ (k : Contract). certify k (a .class) (a .effective-day)) (c .before .contract-at .ensures)
 
-check-requires : tie.Need-check-requires
-check-requires c κs = search needs
-
-enum-known-rows : tie.Need-enum-known-rows
-enum-known-rows c = search needs
-
-enum-told : tie.Need-enum-told
-enum-told c = search needs
-
-same-length : tie.Need-same-length
-same-length c = search needs
-
 returns : tie.Need-returns
 returns c = answered-and-left (malformed-refused _ _ (sym (c .enum-told .given .1) ∙ c .before .before .check .ensures))
 
 refused-cert-requires : tie.Need-refused-cert-requires
 refused-cert-requires c κs = formed-length _ (sound (c .before .before) .formed)
-
-same-length-2 : tie.Need-same-length-2
-same-length-2 c = search needs
 
 returns-2 : tie.Need-returns-2
 returns-2 c = answered-and-left (number-refused _ _ _ (sound (c .before .before .before .before)) (c .before .refused-cert .ensures) (c .if1 .taken))
@@ -63,12 +48,6 @@ contract-at-requires : tie.Need-contract-at-requires
 contract-at-requires c κs =
     let passed = c .before in
     (formed-length _ (sound (passed .before .before .before .before) .formed), (certified-number _ _ _ _ (accepted passed), certified-open _ _ _ _ (accepted passed)))
-
-certify-requires : tie.Need-certify-requires
-certify-requires c κs = search needs
-
-cast-rerate-rows : tie.Need-cast-rerate-rows
-cast-rerate-rows c = search needs
 
 rerate-rows-requires : tie.Need-rerate-rows-requires
 rerate-rows-requires c κs = searched _ (sound (c .before .before .before .before .before .before .before .before))
@@ -89,9 +68,6 @@ difference-requires c κs =
     let passed = at-certify .before .before .before in
     omega (arith, sums-low _ _ _ _ (accepted passed) _ _ (sound (passed .before .before .before .before)) _ (made at-certify) _ (at-rows .rerate-rows .ensures .0))
 
-same-length-3 : tie.Need-same-length-3
-same-length-3 c = search needs
-
 returns-3 : tie.Need-returns-3
 returns-3 c =
     let at-write = c .before .before .before in
@@ -106,19 +82,19 @@ pub cert-spec : {M : Type 1} → statement M
 cert-spec =
     tie.close
     (tie.spec
-    check-requires
-    enum-known-rows
-    enum-told
-    same-length
+    (λ c κs. search needs)
+    (λ c. search needs)
+    (λ c. search needs)
+    (λ c. search needs)
     returns
     refused-cert-requires
-    same-length-2
+    (λ c. search needs)
     returns-2
     contract-at-requires
-    certify-requires
-    cast-rerate-rows
+    (λ c κs. search needs)
+    (λ c. search needs)
     rerate-rows-requires
     write-contract-requires
     difference-requires
-    same-length-3
+    (λ c. search needs)
     returns-3)

@@ -22,41 +22,20 @@ accepted : (c : tie.Else1) → let a = c .before .before .before .before .before
     refusal document01 (view (ledgerOf document01 packedLayout (a .ledger .now))) (callOpen (a .contract) (a .fuel) (a .kind) (a .price-fix-day) (a .entry-day)) ≡ 0
 accepted c = sym (c .before .refused-open .ensures) ∙ c .if1 .left
 
-check-requires : tie.Need-check-requires
-check-requires c κs = search needs
-
-enum-told : tie.Need-enum-told
-enum-told c = search needs
-
-enum-told-2 : tie.Need-enum-told-2
-enum-told-2 c = search needs
-
-same-length : tie.Need-same-length
-same-length c = search needs
-
 returns : tie.Need-returns
 returns c = answered-and-left (malformed-refused _ _ (sym (c .enum-told2 .given .1) ∙ c .before .before .check .ensures))
 
 refused-open-requires : tie.Need-refused-open-requires
 refused-open-requires c κs = formed-length _ (sound (c .before) .formed)
 
-same-length-2 : tie.Need-same-length-2
-same-length-2 c = search needs
-
 returns-2 : tie.Need-returns-2
 returns-2 c = answered-and-left (number-refused _ _ _ (sound (c .before .before .before)) (c .before .refused-open .ensures) (c .if1 .taken))
-
-opening-requires : tie.Need-opening-requires
-opening-requires c κs = search needs
 
 write-contract-requires : tie.Need-write-contract-requires
 write-contract-requires c κs =
     let passed = c .before .before in
     let read = sound (passed .before .before .before) in
     (formed-length _ (read .formed), (opened-number _ _ _ _ _ _ (accepted passed), opened-fits _ _ _ _ _ _ (accepted passed) _ (c .before .opening .ensures)))
-
-same-length-3 : tie.Need-same-length-3
-same-length-3 c = search needs
 
 returns-3 : tie.Need-returns-3
 returns-3 c =
@@ -69,15 +48,15 @@ pub open-contract-spec : {M : Type 1} → statement M
 open-contract-spec =
     tie.close
     (tie.spec
-    check-requires
-    enum-told
-    enum-told-2
-    same-length
+    (λ c κs. search needs)
+    (λ c. search needs)
+    (λ c. search needs)
+    (λ c. search needs)
     returns
     refused-open-requires
-    same-length-2
+    (λ c. search needs)
     returns-2
-    opening-requires
+    (λ c κs. search needs)
     write-contract-requires
-    same-length-3
+    (λ c. search needs)
     returns-3)

@@ -14,12 +14,6 @@ returns-2 : tie.Need-returns-2
 unfolding startRefusal startAnswer startBytes
 returns-2 c = simp (eq-eqb _ _ (c .before .if1 .left), lt-ltb _ _ (c .if2 .taken)) (refl, refl)
 
-fresh-requires : tie.Need-fresh-requires
-fresh-requires c κs = search needs
-
-same-length : tie.Need-same-length
-same-length c = search needs
-
 returns-3 : tie.Need-returns-3
 unfolding startRefusal startAnswer startBytes
 returns-3 c =
@@ -27,4 +21,4 @@ returns-3 c =
     simp (eq-eqb _ _ (passed .before .if1 .left), le-ltb _ _ (passed .if2 .left)) (refl, c .before .before .fresh .ensures)
 
 pub start-spec : {M : Type 1} → statement M
-start-spec = tie.close (tie.spec returns returns-2 fresh-requires same-length returns-3)
+start-spec = tie.close (tie.spec returns returns-2 (λ c κs. search needs) (λ c. search needs) returns-3)

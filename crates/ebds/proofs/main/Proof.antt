@@ -14,18 +14,6 @@ use Rattle.ebds.proofs.main.Tie as tie
 inside : (c : tie.After-session) → c .session .result ≤ length (c .session .last .1 .0)
 inside c = subst (λ (k : ℕ). c .session .result ≤ k) (sym (c .session .kept .1 .0)) (zeros-room mostOutput (c .session .result) (c .session .ensures .within))
 
-slice-aggregate-read-full : tie.Need-slice-aggregate-read-full
-slice-aggregate-read-full c = search needs
-
-read-full-requires : tie.Need-read-full-requires
-read-full-requires c κs = search needs
-
-array-share-prefix-input : tie.Need-array-share-prefix-input
-array-share-prefix-input c = search needs
-
-slice-aggregate-session : tie.Need-slice-aggregate-session
-slice-aggregate-session c = search needs
-
 slice-aggregate-session-2 : tie.Need-slice-aggregate-session-2
 slice-aggregate-session-2 c = zeros-length mostOutput
 
@@ -38,23 +26,17 @@ array-share-prefix-out c = inside (c .before)
 slice-aggregate-write-all : tie.Need-slice-aggregate-write-all
 slice-aggregate-write-all c = sym (length-take-le _ _ (inside (c .before .before)))
 
-write-all-requires : tie.Need-write-all-requires
-write-all-requires c κs = search needs
-
-returns : tie.Need-returns
-returns c = search needs
-
 pub main-spec : {M : Type 1} → statement M
 main-spec =
     tie.close
     (tie.spec
-    slice-aggregate-read-full
-    read-full-requires
-    array-share-prefix-input
-    slice-aggregate-session
+    (λ c. search needs)
+    (λ c κs. search needs)
+    (λ c. search needs)
+    (λ c. search needs)
     slice-aggregate-session-2
     session-requires
     array-share-prefix-out
     slice-aggregate-write-all
-    write-all-requires
-    returns)
+    (λ c κs. search needs)
+    (λ c. search needs))

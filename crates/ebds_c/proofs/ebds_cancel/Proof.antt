@@ -4,17 +4,11 @@ use borrow.Author.Needs.{needs}
 use Rattle.ebds_c.proofs.ebds_cancel.Statement.{statement}
 use Rattle.ebds_c.proofs.ebds_cancel.Tie as tie
 
-cancel-requires : tie.Need-cancel-requires
-cancel-requires c κs = search needs
-
 give-requires : tie.Need-give-requires
 give-requires c κs = same-fits (c .before .before .before .cancel .ensures .0) (machine-fits _ _)
-
-same-length : tie.Need-same-length
-same-length c = search needs
 
 returns : tie.Need-returns
 returns c = let said = c .before .before .before .before .cancel .ensures in (same-given (said .0) (c .give .ensures), said .1)
 
 pub ebds-cancel-spec : {M : Type 1} → statement M
-ebds-cancel-spec = tie.close (tie.spec cancel-requires give-requires same-length returns)
+ebds-cancel-spec = tie.close (tie.spec (λ c κs. search needs) give-requires (λ c. search needs) returns)

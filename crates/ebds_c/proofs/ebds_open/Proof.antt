@@ -4,17 +4,11 @@ use borrow.Author.Needs.{needs}
 use Rattle.ebds_c.proofs.ebds_open.Statement.{statement}
 use Rattle.ebds_c.proofs.ebds_open.Tie as tie
 
-open-contract-requires : tie.Need-open-contract-requires
-open-contract-requires c κs = search needs
-
 give-requires : tie.Need-give-requires
 give-requires c κs = same-fits (c .before .before .before .open-contract .ensures .0) (machine-fits _ _)
-
-same-length : tie.Need-same-length
-same-length c = search needs
 
 returns : tie.Need-returns
 returns c = let said = c .before .before .before .before .open-contract .ensures in (same-given (said .0) (c .give .ensures), said .1)
 
 pub ebds-open-spec : {M : Type 1} → statement M
-ebds-open-spec = tie.close (tie.spec open-contract-requires give-requires same-length returns)
+ebds-open-spec = tie.close (tie.spec (λ c κs. search needs) give-requires (λ c. search needs) returns)

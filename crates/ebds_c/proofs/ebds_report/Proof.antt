@@ -4,9 +4,6 @@ use borrow.Author.Needs.{needs}
 use Rattle.ebds_c.proofs.ebds_report.Statement.{statement}
 use Rattle.ebds_c.proofs.ebds_report.Tie as tie
 
-report-requires : tie.Need-report-requires
-report-requires c κs = search needs
-
 give-requires : tie.Need-give-requires
 give-requires c κs = same-fits (c .before .report .ensures) (machine-fits _ _)
 
@@ -14,4 +11,4 @@ returns : tie.Need-returns
 returns c = same-given (c .before .before .report .ensures) (c .give .ensures)
 
 pub ebds-report-spec : {M : Type 1} → statement M
-ebds-report-spec = tie.close (tie.spec report-requires give-requires returns)
+ebds-report-spec = tie.close (tie.spec (λ c κs. search needs) give-requires returns)

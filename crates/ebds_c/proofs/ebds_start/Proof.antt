@@ -4,17 +4,11 @@ use borrow.Author.Needs.{needs}
 use Rattle.ebds_c.proofs.ebds_start.Statement.{statement}
 use Rattle.ebds_c.proofs.ebds_start.Tie as tie
 
-start-requires : tie.Need-start-requires
-start-requires c κs = search needs
-
 give-requires : tie.Need-give-requires
 give-requires c κs = same-fits (c .before .before .before .start .ensures .0) (start-fits _ _)
-
-same-length : tie.Need-same-length
-same-length c = search needs
 
 returns : tie.Need-returns
 returns c = let said = c .before .before .before .before .start .ensures in (same-given (said .0) (c .give .ensures), said .1)
 
 pub ebds-start-spec : {M : Type 1} → statement M
-ebds-start-spec = tie.close (tie.spec start-requires give-requires same-length returns)
+ebds-start-spec = tie.close (tie.spec (λ c κs. search needs) give-requires (λ c. search needs) returns)

@@ -11,15 +11,6 @@ use borrow.Author.Needs.{needs}
 use Rattle.edits.proofs.fresh.Statement.{statement}
 use Rattle.edits.proofs.fresh.Tie as tie
 
-clear-requires : tie.Need-clear-requires
-clear-requires c κs = search needs
-
-write-header-requires : tie.Need-write-header-requires
-write-header-requires c κs = search needs
-
-same-length : tie.Need-same-length
-same-length c = search needs
-
 returns : tie.Need-returns
 returns c =
     let at-header = c .before .before in
@@ -31,4 +22,4 @@ returns c =
     ∙ sym (fresh-ledger t)
 
 pub fresh-spec : {M : Type 1} → statement M
-fresh-spec = tie.close (tie.spec clear-requires write-header-requires same-length returns)
+fresh-spec = tie.close (tie.spec (λ c κs. search needs) (λ c κs. search needs) (λ c. search needs) returns)

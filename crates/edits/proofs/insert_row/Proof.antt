@@ -13,42 +13,6 @@ use borrow.Author.Needs.{needs}
 use Rattle.edits.proofs.insert_row.Statement.{statement}
 use Rattle.edits.proofs.insert_row.Tie as tie
 
-slice-aggregate-pack-row : tie.Need-slice-aggregate-pack-row
-slice-aggregate-pack-row c = search needs
-
-pack-row-requires : tie.Need-pack-row-requires
-pack-row-requires c κs = search needs
-
-add-end : tie.Need-add-end
-add-end c = search needs
-
-mul-end : tie.Need-mul-end
-mul-end c = search needs
-
-add-end-2 : tie.Need-add-end-2
-add-end-2 c = search needs
-
-sub-insert : tie.Need-sub-insert
-sub-insert c = search needs
-
-part-insert-start : tie.Need-part-insert-start
-part-insert-start c = search needs
-
-part-insert-end : tie.Need-part-insert-end
-part-insert-end c = search needs
-
-mul-insert : tie.Need-mul-insert
-mul-insert c = search needs
-
-slice-aggregate-insert : tie.Need-slice-aggregate-insert
-slice-aggregate-insert c = search needs
-
-insert-requires : tie.Need-insert-requires
-insert-requires c κs = search needs
-
-same-length : tie.Need-same-length
-same-length c = search needs
-
 returns : tie.Need-returns
 returns c =
     let at-insert = c .before .before in
@@ -63,16 +27,16 @@ pub insert-row-spec : {M : Type 1} → statement M
 insert-row-spec =
     tie.close
     (tie.spec
-    slice-aggregate-pack-row
-    pack-row-requires
-    add-end
-    mul-end
-    add-end-2
-    sub-insert
-    part-insert-start
-    part-insert-end
-    mul-insert
-    slice-aggregate-insert
-    insert-requires
-    same-length
+    (λ c. search needs)
+    (λ c κs. search needs)
+    (λ c. search needs)
+    (λ c. search needs)
+    (λ c. search needs)
+    (λ c. search needs)
+    (λ c. search needs)
+    (λ c. search needs)
+    (λ c. search needs)
+    (λ c. search needs)
+    (λ c κs. search needs)
+    (λ c. search needs)
     returns)

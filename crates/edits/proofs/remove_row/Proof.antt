@@ -8,30 +8,6 @@ use borrow.Author.Needs.{needs}
 use Rattle.edits.proofs.remove_row.Statement.{statement}
 use Rattle.edits.proofs.remove_row.Tie as tie
 
-mul-end : tie.Need-mul-end
-mul-end c = search needs
-
-add-end : tie.Need-add-end
-add-end c = search needs
-
-sub-remove : tie.Need-sub-remove
-sub-remove c = search needs
-
-part-remove-start : tie.Need-part-remove-start
-part-remove-start c = search needs
-
-part-remove-end : tie.Need-part-remove-end
-part-remove-end c = search needs
-
-mul-remove : tie.Need-mul-remove
-mul-remove c = search needs
-
-remove-requires : tie.Need-remove-requires
-remove-requires c κs = search needs
-
-same-length : tie.Need-same-length
-same-length c = search needs
-
 returns : tie.Need-returns
 returns c =
     let at-remove = c .before .before in
@@ -42,12 +18,12 @@ pub remove-row-spec : {M : Type 1} → statement M
 remove-row-spec =
     tie.close
     (tie.spec
-    mul-end
-    add-end
-    sub-remove
-    part-remove-start
-    part-remove-end
-    mul-remove
-    remove-requires
-    same-length
+    (λ c. search needs)
+    (λ c. search needs)
+    (λ c. search needs)
+    (λ c. search needs)
+    (λ c. search needs)
+    (λ c. search needs)
+    (λ c κs. search needs)
+    (λ c. search needs)
     returns)

@@ -16,24 +16,6 @@ use borrow.Author.Needs.{needs}
 use Rattle.edits.proofs.replace_amount.Statement.{statement}
 use Rattle.edits.proofs.replace_amount.Tie as tie
 
-mul-start : tie.Need-mul-start
-mul-start c = search needs
-
-add-start : tie.Need-add-start
-add-start c = search needs
-
-add-put-amount : tie.Need-add-put-amount
-add-put-amount c = search needs
-
-sub-put-amount : tie.Need-sub-put-amount
-sub-put-amount c = search needs
-
-part-put-amount-start : tie.Need-part-put-amount-start
-part-put-amount-start c = search needs
-
-part-put-amount-end : tie.Need-part-put-amount-end
-part-put-amount-end c = search needs
-
 put-amount-requires : tie.Need-put-amount-requires
 put-amount-requires c κs =
     let start = c .before .before in
@@ -41,9 +23,6 @@ put-amount-requires c κs =
     let at = firstRow + start .args .i * rowLength in
     let lent : at + rowLength - at ≡ rowLength = omega arith in
     rw lent (length-take-le rowLength (drop at b) (omega (arith, start .pre .0, length-drop at b)), start .pre .1 .1)
-
-same-length : tie.Need-same-length
-same-length c = search needs
 
 returns : tie.Need-returns
 returns c =
@@ -60,12 +39,12 @@ pub replace-amount-spec : {M : Type 1} → statement M
 replace-amount-spec =
     tie.close
     (tie.spec
-    mul-start
-    add-start
-    add-put-amount
-    sub-put-amount
-    part-put-amount-start
-    part-put-amount-end
+    (λ c. search needs)
+    (λ c. search needs)
+    (λ c. search needs)
+    (λ c. search needs)
+    (λ c. search needs)
+    (λ c. search needs)
     put-amount-requires
-    same-length
+    (λ c. search needs)
     returns)

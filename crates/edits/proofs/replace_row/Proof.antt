@@ -9,30 +9,6 @@ use borrow.Author.Needs.{needs}
 use Rattle.edits.proofs.replace_row.Statement.{statement}
 use Rattle.edits.proofs.replace_row.Tie as tie
 
-mul-at : tie.Need-mul-at
-mul-at c = search needs
-
-add-at : tie.Need-add-at
-add-at c = search needs
-
-add-pack-row : tie.Need-add-pack-row
-add-pack-row c = search needs
-
-sub-pack-row : tie.Need-sub-pack-row
-sub-pack-row c = search needs
-
-part-pack-row-start : tie.Need-part-pack-row-start
-part-pack-row-start c = search needs
-
-part-pack-row-end : tie.Need-part-pack-row-end
-part-pack-row-end c = search needs
-
-pack-row-requires : tie.Need-pack-row-requires
-pack-row-requires c κs = search needs
-
-same-length : tie.Need-same-length
-same-length c = search needs
-
 returns : tie.Need-returns
 returns c =
     let at-pack = c .before .before in
@@ -43,12 +19,12 @@ pub replace-row-spec : {M : Type 1} → statement M
 replace-row-spec =
     tie.close
     (tie.spec
-    mul-at
-    add-at
-    add-pack-row
-    sub-pack-row
-    part-pack-row-start
-    part-pack-row-end
-    pack-row-requires
-    same-length
+    (λ c. search needs)
+    (λ c. search needs)
+    (λ c. search needs)
+    (λ c. search needs)
+    (λ c. search needs)
+    (λ c. search needs)
+    (λ c κs. search needs)
+    (λ c. search needs)
     returns)

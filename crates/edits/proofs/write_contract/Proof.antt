@@ -9,30 +9,6 @@ use borrow.Author.Needs.{needs}
 use Rattle.edits.proofs.write_contract.Statement.{statement}
 use Rattle.edits.proofs.write_contract.Tie as tie
 
-mul-at : tie.Need-mul-at
-mul-at c = search needs
-
-add-at : tie.Need-add-at
-add-at c = search needs
-
-add-pack-contract : tie.Need-add-pack-contract
-add-pack-contract c = search needs
-
-sub-pack-contract : tie.Need-sub-pack-contract
-sub-pack-contract c = search needs
-
-part-pack-contract-start : tie.Need-part-pack-contract-start
-part-pack-contract-start c = search needs
-
-part-pack-contract-end : tie.Need-part-pack-contract-end
-part-pack-contract-end c = search needs
-
-pack-contract-requires : tie.Need-pack-contract-requires
-pack-contract-requires c κs = search needs
-
-same-length : tie.Need-same-length
-same-length c = search needs
-
 returns : tie.Need-returns
 returns c =
     let at-pack = c .before .before in
@@ -44,12 +20,12 @@ pub write-contract-spec : {M : Type 1} → statement M
 write-contract-spec =
     tie.close
     (tie.spec
-    mul-at
-    add-at
-    add-pack-contract
-    sub-pack-contract
-    part-pack-contract-start
-    part-pack-contract-end
-    pack-contract-requires
-    same-length
+    (λ c. search needs)
+    (λ c. search needs)
+    (λ c. search needs)
+    (λ c. search needs)
+    (λ c. search needs)
+    (λ c. search needs)
+    (λ c κs. search needs)
+    (λ c. search needs)
     returns)

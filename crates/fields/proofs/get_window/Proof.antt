@@ -7,24 +7,6 @@ use borrow.Author.Needs.{needs}
 use Rattle.fields.proofs.get_window.Statement.{statement}
 use Rattle.fields.proofs.get_window.Tie as tie
 
-load-eight-requires : tie.Need-load-eight-requires
-load-eight-requires c κs = search needs
-
-mul-extract : tie.Need-mul-extract
-mul-extract c = search needs
-
-sub-extract : tie.Need-sub-extract
-sub-extract c = search needs
-
-sub-extract-2 : tie.Need-sub-extract-2
-sub-extract-2 c = search needs
-
-sub-extract-3 : tie.Need-sub-extract-3
-sub-extract-3 c = search needs
-
-extract-requires : tie.Need-extract-requires
-extract-requires c κs = search needs
-
 returns : tie.Need-returns
 returns c =
     let at-load = c .before in
@@ -36,10 +18,10 @@ pub get-window-spec : {M : Type 1} → statement M
 get-window-spec =
     tie.close
     (tie.spec
-    load-eight-requires
-    mul-extract
-    sub-extract
-    sub-extract-2
-    sub-extract-3
-    extract-requires
+    (λ c κs. search needs)
+    (λ c. search needs)
+    (λ c. search needs)
+    (λ c. search needs)
+    (λ c. search needs)
+    (λ c κs. search needs)
     returns)

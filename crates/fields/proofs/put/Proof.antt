@@ -7,27 +7,6 @@ use borrow.Author.Needs.{needs}
 use Rattle.fields.proofs.put.Statement.{statement}
 use Rattle.fields.proofs.put.Tie as tie
 
-load-requires : tie.Need-load-requires
-load-requires c κs = search needs
-
-mul-insert : tie.Need-mul-insert
-mul-insert c = search needs
-
-sub-insert : tie.Need-sub-insert
-sub-insert c = search needs
-
-sub-insert-2 : tie.Need-sub-insert-2
-sub-insert-2 c = search needs
-
-insert-requires : tie.Need-insert-requires
-insert-requires c κs = search needs
-
-store-requires : tie.Need-store-requires
-store-requires c κs = search needs
-
-same-length : tie.Need-same-length
-same-length c = search needs
-
 returns : tie.Need-returns
 returns c =
     let at-store = c .before .before in
@@ -41,31 +20,19 @@ returns c =
     (λ k. at-known .slice-known .given k .fits) (omega arith) (omega arith) (omega arith) (start .pre .1 .1 .1)
     (at-load .load .ensures) (at-insert .insert .ensures) (at-store .store .ensures)
 
-window-start-requires : tie.Need-window-start-requires
-window-start-requires c κs = search needs
-
-put-window-requires : tie.Need-put-window-requires
-put-window-requires c κs = search needs
-
-same-length-2 : tie.Need-same-length-2
-same-length-2 c = search needs
-
-returns-2 : tie.Need-returns-2
-returns-2 c = search needs
-
 pub put-spec : {M : Type 1} → statement M
 put-spec =
     tie.close
     (tie.spec
-    load-requires
-    mul-insert
-    sub-insert
-    sub-insert-2
-    insert-requires
-    store-requires
-    same-length
+    (λ c κs. search needs)
+    (λ c. search needs)
+    (λ c. search needs)
+    (λ c. search needs)
+    (λ c κs. search needs)
+    (λ c κs. search needs)
+    (λ c. search needs)
     returns
-    window-start-requires
-    put-window-requires
-    same-length-2
-    returns-2)
+    (λ c κs. search needs)
+    (λ c κs. search needs)
+    (λ c. search needs)
+    (λ c. search needs))

@@ -7,30 +7,6 @@ use borrow.Author.Needs.{needs}
 use Rattle.fields.proofs.put_window.Statement.{statement}
 use Rattle.fields.proofs.put_window.Tie as tie
 
-load-eight-requires : tie.Need-load-eight-requires
-load-eight-requires c κs = search needs
-
-mul-insert : tie.Need-mul-insert
-mul-insert c = search needs
-
-sub-insert : tie.Need-sub-insert
-sub-insert c = search needs
-
-sub-insert-2 : tie.Need-sub-insert-2
-sub-insert-2 c = search needs
-
-sub-insert-3 : tie.Need-sub-insert-3
-sub-insert-3 c = search needs
-
-insert-requires : tie.Need-insert-requires
-insert-requires c κs = search needs
-
-store-requires : tie.Need-store-requires
-store-requires c κs = search needs
-
-same-length : tie.Need-same-length
-same-length c = search needs
-
 returns : tie.Need-returns
 returns c =
     let at-store = c .before .before in
@@ -47,12 +23,12 @@ pub put-window-spec : {M : Type 1} → statement M
 put-window-spec =
     tie.close
     (tie.spec
-    load-eight-requires
-    mul-insert
-    sub-insert
-    sub-insert-2
-    sub-insert-3
-    insert-requires
-    store-requires
-    same-length
+    (λ c κs. search needs)
+    (λ c. search needs)
+    (λ c. search needs)
+    (λ c. search needs)
+    (λ c. search needs)
+    (λ c κs. search needs)
+    (λ c κs. search needs)
+    (λ c. search needs)
     returns)

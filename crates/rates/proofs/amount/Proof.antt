@@ -9,12 +9,6 @@ use borrow.Author.Needs.{needs}
 use Rattle.rates.proofs.amount.Statement.{statement}
 use Rattle.rates.proofs.amount.Tie as tie
 
-cast-result : tie.Need-cast-result
-cast-result c = search needs
-
-rate-requires : tie.Need-rate-requires
-rate-requires c κs = search needs
-
 mul-result : tie.Need-mul-result
 mul-result c =
     let bill = c .before .before .args .bill in
@@ -27,4 +21,4 @@ unfolding amount
 returns c = ap (λ (n : ℕ). c .before .before .args .bill .kwh * n) (c .rate .ensures)
 
 pub amount-spec : {M : Type 1} → statement M
-amount-spec = tie.close (tie.spec cast-result rate-requires mul-result returns)
+amount-spec = tie.close (tie.spec (λ c. search needs) (λ c κs. search needs) mul-result returns)

@@ -4,15 +4,9 @@ use borrow.Author.Needs.{needs}
 use Rattle.rates.proofs.rate.Statement.{statement}
 use Rattle.rates.proofs.rate.Tie as tie
 
-class-of-requires : tie.Need-class-of-requires
-class-of-requires c κs = search needs
-
-class-rate-requires : tie.Need-class-rate-requires
-class-rate-requires c κs = search needs
-
 returns : tie.Need-returns
 unfolding rate
 returns c = cc
 
 pub rate-spec : {M : Type 1} → statement M
-rate-spec = tie.close (tie.spec class-of-requires class-rate-requires returns)
+rate-spec = tie.close (tie.spec (λ c κs. search needs) (λ c κs. search needs) returns)

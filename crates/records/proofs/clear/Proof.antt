@@ -19,24 +19,12 @@ abbrev μ-loop : tie.MeasureT-loop
 loop-holds : tie.Need-loop-holds Inv-loop μ-loop
 loop-holds c = (search needs, (search needs, fill-none _ 0))
 
-slice-write-b : tie.Need-slice-write-b Inv-loop μ-loop
-slice-write-b c = search needs
-
-add-i : tie.Need-add-i Inv-loop μ-loop
-add-i c = search needs
-
-loop-less : tie.Need-loop-less Inv-loop μ-loop
-loop-less c = search needs
-
 loop-again : tie.Need-loop-again Inv-loop μ-loop
 loop-again c =
     let at-loop = c .before in
     let i = at-loop .loop .i in
     let more = ap (λ (l : List ℕ). set l i 0) (at-loop .loop .inv .1 .1) ∙ fill-more i 0 (at-loop .before .args .b .now) (omega arith) in
     (search needs, (simp length-set (search needs), more))
-
-same-length : tie.Need-same-length Inv-loop μ-loop
-same-length c = search needs
 
 returns : tie.Need-returns Inv-loop μ-loop
 returns c = fill-all (c .before .before .args .b .now) (c .before .loop .b) (c .before .loop .i) (c .before .loop .inv .1 .1) (omega arith) (omega arith)
@@ -48,9 +36,9 @@ clear-spec =
     Inv-loop
     μ-loop
     loop-holds
-    slice-write-b
-    add-i
-    loop-less
+    (λ c. search needs)
+    (λ c. search needs)
+    (λ c. search needs)
     loop-again
-    same-length
+    (λ c. search needs)
     returns)

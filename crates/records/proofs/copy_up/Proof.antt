@@ -22,32 +22,11 @@ loop-holds c =
     let start = copied-none (a .b .now) (a .from + a .n) (a .to + a .n) ∙ ap (λ (k : ℕ). copied (a .from + a .n) (a .to + a .n) k (a .b .now)) none in
     (search needs, (search needs, start))
 
-sub-i : tie.Need-sub-i Inv-loop μ-loop
-sub-i c = search needs
-
-add-b : tie.Need-add-b Inv-loop μ-loop
-add-b c = search needs
-
-slice-read-b : tie.Need-slice-read-b Inv-loop μ-loop
-slice-read-b c = search needs
-
-add-b-2 : tie.Need-add-b-2 Inv-loop μ-loop
-add-b-2 c = search needs
-
-slice-write-b : tie.Need-slice-write-b Inv-loop μ-loop
-slice-write-b c = search needs
-
-loop-less : tie.Need-loop-less Inv-loop μ-loop
-loop-less c = search needs
-
 loop-again : tie.Need-loop-again Inv-loop μ-loop
 loop-again c =
     let at-loop = c .before .before in
     let pre = at-loop .before .pre in
     (search needs, (simp length-set (search needs), copied-up _ _ _ _ _ _ (at-loop .loop .inv .1 .1) (omega arith) (omega arith) (pre .0) (pre .1)))
-
-same-length : tie.Need-same-length Inv-loop μ-loop
-same-length c = search needs
 
 returns : tie.Need-returns Inv-loop μ-loop
 returns c =
@@ -66,12 +45,12 @@ copy-up-spec =
     Inv-loop
     μ-loop
     loop-holds
-    sub-i
-    add-b
-    slice-read-b
-    add-b-2
-    slice-write-b
-    loop-less
+    (λ c. search needs)
+    (λ c. search needs)
+    (λ c. search needs)
+    (λ c. search needs)
+    (λ c. search needs)
+    (λ c. search needs)
     loop-again
-    same-length
+    (λ c. search needs)
     returns)

@@ -8,24 +8,6 @@ use Rattle.records.proofs.Edits.{copied-insert}
 use Rattle.records.proofs.insert.Statement.{statement}
 use Rattle.records.proofs.insert.Tie as tie
 
-sub-kept : tie.Need-sub-kept
-sub-kept c = search needs
-
-sub-kept-2 : tie.Need-sub-kept-2
-sub-kept-2 c = search needs
-
-add-copy-up : tie.Need-add-copy-up
-add-copy-up c = search needs
-
-copy-up-requires : tie.Need-copy-up-requires
-copy-up-requires c κs = search needs
-
-replace-requires : tie.Need-replace-requires
-replace-requires c κs = search needs
-
-same-length : tie.Need-same-length
-same-length c = search needs
-
 returns : tie.Need-returns
 returns c =
     let at-replace = c .before .before in
@@ -40,10 +22,10 @@ pub insert-spec : {M : Type 1} → statement M
 insert-spec =
     tie.close
     (tie.spec
-    sub-kept
-    sub-kept-2
-    add-copy-up
-    copy-up-requires
-    replace-requires
-    same-length
+    (λ c. search needs)
+    (λ c. search needs)
+    (λ c. search needs)
+    (λ c κs. search needs)
+    (λ c κs. search needs)
+    (λ c. search needs)
     returns)

@@ -17,18 +17,6 @@ abbrev μ-loop : tie.MeasureT-loop
 loop-holds : tie.Need-loop-holds Inv-loop μ-loop
 loop-holds c = (search needs, zero-none _ _)
 
-add-bits : tie.Need-add-bits Inv-loop μ-loop
-add-bits c = search needs
-
-shared-slice-read-bits : tie.Need-shared-slice-read-bits Inv-loop μ-loop
-shared-slice-read-bits c = search needs
-
-add-i : tie.Need-add-i Inv-loop μ-loop
-add-i c = search needs
-
-loop-less : tie.Need-loop-less Inv-loop μ-loop
-loop-less c = search needs
-
 loop-again : tie.Need-loop-again Inv-loop μ-loop
 loop-again c = (search needs, zero-next _ _ _ _ (c .before .before .loop .inv .1))
 
@@ -47,9 +35,9 @@ is-zero-spec =
     Inv-loop
     μ-loop
     loop-holds
-    add-bits
-    shared-slice-read-bits
-    add-i
-    loop-less
+    (λ c. search needs)
+    (λ c. search needs)
+    (λ c. search needs)
+    (λ c. search needs)
     loop-again
     returns)

@@ -8,36 +8,6 @@ use Rattle.records.proofs.Edits.{part-lent, copied-remove}
 use Rattle.records.proofs.remove.Statement.{statement}
 use Rattle.records.proofs.remove.Tie as tie
 
-sub-kept : tie.Need-sub-kept
-sub-kept c = search needs
-
-sub-kept-2 : tie.Need-sub-kept-2
-sub-kept-2 c = search needs
-
-add-copy-down : tie.Need-add-copy-down
-add-copy-down c = search needs
-
-copy-down-requires : tie.Need-copy-down-requires
-copy-down-requires c κs = search needs
-
-add-clear : tie.Need-add-clear
-add-clear c = search needs
-
-sub-clear : tie.Need-sub-clear
-sub-clear c = search needs
-
-part-clear-start : tie.Need-part-clear-start
-part-clear-start c = search needs
-
-part-clear-end : tie.Need-part-clear-end
-part-clear-end c = search needs
-
-clear-requires : tie.Need-clear-requires
-clear-requires c κs = search needs
-
-same-length : tie.Need-same-length
-same-length c = search needs
-
 returns : tie.Need-returns
 returns c =
     let at-clear = c .before .before in
@@ -53,14 +23,14 @@ pub remove-spec : {M : Type 1} → statement M
 remove-spec =
     tie.close
     (tie.spec
-    sub-kept
-    sub-kept-2
-    add-copy-down
-    copy-down-requires
-    add-clear
-    sub-clear
-    part-clear-start
-    part-clear-end
-    clear-requires
-    same-length
+    (λ c. search needs)
+    (λ c. search needs)
+    (λ c. search needs)
+    (λ c κs. search needs)
+    (λ c. search needs)
+    (λ c. search needs)
+    (λ c. search needs)
+    (λ c. search needs)
+    (λ c κs. search needs)
+    (λ c. search needs)
     returns)

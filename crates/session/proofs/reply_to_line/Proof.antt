@@ -26,25 +26,10 @@ said c = c .reply .ensures .0 ∙ ap (reply (before c)) (c .before .before .befo
 fits : (c : tie.After-reply) → lineRoom (c .reply .result) ≤ outputPerByte * (length (start c .args .line .now) + 1)
 fits c = line-room (before c) (start c .args .line .now) (said c)
 
-read-command-requires : tie.Need-read-command-requires
-read-command-requires c κs = search needs
-
-reply-requires : tie.Need-reply-requires
-reply-requires c κs = search needs
-
 write-line-requires : tie.Need-write-line-requires
 write-line-requires c κs =
     let r = c .before .before .before .before .before in
     omega (arith, fits r, start r .pre .1)
-
-same-length : tie.Need-same-length
-same-length c = search needs
-
-same-length-2 : tie.Need-same-length-2
-same-length-2 c = search needs
-
-same-length-3 : tie.Need-same-length-3
-same-length-3 c = search needs
 
 returns : tie.Need-returns
 returns c =
@@ -59,10 +44,10 @@ pub reply-to-line-spec : {M : Type 1} → statement M
 reply-to-line-spec =
     tie.close
     (tie.spec
-    read-command-requires
-    reply-requires
+    (λ c κs. search needs)
+    (λ c κs. search needs)
     write-line-requires
-    same-length
-    same-length-2
-    same-length-3
+    (λ c. search needs)
+    (λ c. search needs)
+    (λ c. search needs)
     returns)

@@ -15,32 +15,11 @@ use Rattle.session.proofs.session.Tie as tie
 write-line-requires : tie.Need-write-line-requires
 write-line-requires c κs = omega (arith, refused-room 0 1 (omega arith), c .before .before .before .before .pre)
 
-same-length : tie.Need-same-length
-same-length c = search needs
-
 returns : tie.Need-returns
 returns c =
     let w = c .before .before in
     let t = w .before .before in
     record { wrote = wrote-same (w .write-line .ensures .wrote) refl (sym (long-input _ (t .if1 .taken))); within = omega (arith, refused-room 0 1 (omega arith), w .write-line .ensures .within) }
-
-slice-aggregate-fresh : tie.Need-slice-aggregate-fresh
-slice-aggregate-fresh c = search needs
-
-fresh-requires : tie.Need-fresh-requires
-fresh-requires c κs = search needs
-
-slice-aggregate-reply-to-lines : tie.Need-slice-aggregate-reply-to-lines
-slice-aggregate-reply-to-lines c = search needs
-
-slice-aggregate-reply-to-lines-2 : tie.Need-slice-aggregate-reply-to-lines-2
-slice-aggregate-reply-to-lines-2 c = search needs
-
-reply-to-lines-requires : tie.Need-reply-to-lines-requires
-reply-to-lines-requires c κs = search needs
-
-same-length-2 : tie.Need-same-length-2
-same-length-2 c = search needs
 
 returns-2 : tie.Need-returns-2
 unfolding initial
@@ -59,12 +38,12 @@ session-spec =
     tie.close
     (tie.spec
     write-line-requires
-    same-length
+    (λ c. search needs)
     returns
-    slice-aggregate-fresh
-    fresh-requires
-    slice-aggregate-reply-to-lines
-    slice-aggregate-reply-to-lines-2
-    reply-to-lines-requires
-    same-length-2
+    (λ c. search needs)
+    (λ c κs. search needs)
+    (λ c. search needs)
+    (λ c. search needs)
+    (λ c κs. search needs)
+    (λ c. search needs)
     returns-2)

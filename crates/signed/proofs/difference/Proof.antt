@@ -4,12 +4,6 @@ use borrow.Author.Needs.{needs}
 use Rattle.signed.proofs.difference.Statement.{statement}
 use Rattle.signed.proofs.difference.Tie as tie
 
-cast-result : tie.Need-cast-result
-cast-result c = search needs
-
-cast-result-2 : tie.Need-cast-result-2
-cast-result-2 c = search needs
-
 sub-result : tie.Need-sub-result
 sub-result c = signed-difference-fits (c .args .a) (c .args .b) (c .pre .0) (c .pre .1)
 
@@ -17,4 +11,4 @@ returns : tie.Need-returns
 returns c = signed-difference (c .args .a) (c .args .b) (c .pre .0) (c .pre .1)
 
 pub difference-spec : {M : Type 1} → statement M
-difference-spec = tie.close (tie.spec cast-result cast-result-2 sub-result returns)
+difference-spec = tie.close (tie.spec (λ c. search needs) (λ c. search needs) sub-result returns)

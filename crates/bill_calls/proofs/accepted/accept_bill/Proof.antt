@@ -20,9 +20,6 @@ rated-row-requires c κs =
     let ledger = start .args .ledger .now in
     request-rateable ledger (a .searched .formed) (request start) (bill-taken ledger (start .args .rows) (request start) a)
 
-first-row-requires : tie.Need-first-row-requires
-first-row-requires c κs = search needs
-
 insert-row-requires : tie.Need-insert-row-requires
 insert-row-requires c κs =
     let start = c .before .before .before .before .before .before .before .before .before in
@@ -38,9 +35,6 @@ insert-row-requires c κs =
       ),
     )
 
-same-length : tie.Need-same-length
-same-length c = search needs
-
 returns : tie.Need-returns
 returns c =
     let start = c .before .before .before .before .before .before .before .before .before .before .before .before in
@@ -52,4 +46,4 @@ returns c =
     (bill-answer ledger rows q a _ made, bill-left ledger rows q a _ _ _ (c .before .before .before .before .first-row .ensures) made (c .before .before .insert-row .ensures))
 
 pub accept-bill-spec : {M : Type 1} → statement M
-accept-bill-spec = tie.close (tie.spec rated-row-requires first-row-requires insert-row-requires same-length returns)
+accept-bill-spec = tie.close (tie.spec rated-row-requires (λ c κs. search needs) insert-row-requires (λ c. search needs) returns)

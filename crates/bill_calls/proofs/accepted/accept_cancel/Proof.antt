@@ -8,9 +8,6 @@ use borrow.Author.Needs.{needs}
 use Rattle.bill_calls.proofs.accepted.accept_cancel.Statement.{statement}
 use Rattle.bill_calls.proofs.accepted.accept_cancel.Tie as tie
 
-first-row-requires : tie.Need-first-row-requires
-first-row-requires c κs = search needs
-
 -- the place that is found is that of a held row
 place-low : (c : tie.After-first-row) → (c .first-row .result < c .before .before .before .args .rows) × (c .before .before .before .args .rows ≤ 1024)
 place-low c =
@@ -37,9 +34,6 @@ difference-requires c κs =
     let old = named-amount-low (s .ledger .now) (s .rows) (s .contract) (s .first) (a .searched) (cancel-held (s .ledger .now) (s .rows) (s .contract) (s .first) a) _ (c .before .before .before .before .before .before .first-row .ensures) _ (c .before .before .before .before .row-at .ensures) in
     omega (arith, old)
 
-same-length : tie.Need-same-length
-same-length c = search needs
-
 returns : tie.Need-returns
 returns c =
     let start = c .before .before .before .before .before .before .before .before .before .before in
@@ -57,9 +51,9 @@ pub accept-cancel-spec : {M : Type 1} → statement M
 accept-cancel-spec =
     tie.close
     (tie.spec
-    first-row-requires
+    (λ c κs. search needs)
     row-at-requires
     remove-row-requires
     difference-requires
-    same-length
+    (λ c. search needs)
     returns)

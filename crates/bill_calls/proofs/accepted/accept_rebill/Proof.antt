@@ -22,9 +22,6 @@ rated-row-requires c κs =
     let ledger = start .args .ledger .now in
     request-rateable ledger (a .searched .formed) (request start) (rebill-taken ledger (start .args .rows) (request start) a)
 
-first-row-requires : tie.Need-first-row-requires
-first-row-requires c κs = search needs
-
 -- the place that is found is that of a held row
 place-low : (c : tie.After-first-row) → (c .first-row .result < c .before .before .before .before .before .before .before .before .args .rows) × (c .before .before .before .before .before .before .before .before .args .rows ≤ 1024)
 place-low c =
@@ -61,9 +58,6 @@ difference-requires c κs =
     let old = named-amount-low ledger rows (q .contract) (q .first) (a .searched) (rebill-held ledger rows q a) _ (c .before .before .before .before .before .before .first-row .ensures) _ (c .before .before .before .before .row-at .ensures) in
     omega (arith, new, old)
 
-same-length : tie.Need-same-length
-same-length c = search needs
-
 returns : tie.Need-returns
 returns c =
     let start = c .before .before .before .before .before .before .before .before .before .before .before .before .before .before .before in
@@ -82,9 +76,9 @@ accept-rebill-spec =
     tie.close
     (tie.spec
     rated-row-requires
-    first-row-requires
+    (λ c κs. search needs)
     row-at-requires
     replace-row-requires
     difference-requires
-    same-length
+    (λ c. search needs)
     returns)

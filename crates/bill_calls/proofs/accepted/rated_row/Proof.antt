@@ -15,18 +15,6 @@ use Rattle.bill_calls.proofs.accepted.rated_row.Tie as tie
 abbrev rated : Row → ℕ → RatedRow
 rated x n = record { row = x; rate = n }
 
-cast-contract-at : tie.Need-cast-contract-at
-cast-contract-at c = search needs
-
-contract-at-requires : tie.Need-contract-at-requires
-contract-at-requires c κs = search needs
-
-row-of-requires : tie.Need-row-of-requires
-row-of-requires c κs = search needs
-
-rate-requires : tie.Need-rate-requires
-rate-requires c κs = search needs
-
 returns : tie.Need-returns
 returns c =
     let start = c .before .before .before .before .before .before .before in
@@ -36,4 +24,4 @@ returns c =
     ap₂ rated made (c .rate .ensures ∙ ap₂ (λ (k : Contract) (x : Row). rate k (x .bill)) read made)
 
 pub rated-row-spec : {M : Type 1} → statement M
-rated-row-spec = tie.close (tie.spec cast-contract-at contract-at-requires row-of-requires rate-requires returns)
+rated-row-spec = tie.close (tie.spec (λ c. search needs) (λ c κs. search needs) (λ c κs. search needs) (λ c κs. search needs) returns)

@@ -4,17 +4,8 @@ use borrow.Author.Needs.{needs}
 use Rattle.bill_refusals.proofs.book.price_at.Statement.{statement}
 use Rattle.bill_refusals.proofs.book.price_at.Tie as tie
 
-mul-result : tie.Need-mul-result
-mul-result c = search needs
-
-shared-slice-read-result : tie.Need-shared-slice-read-result
-shared-slice-read-result c = search needs
-
-returns : tie.Need-returns
-returns c = search needs
-
 returns-2 : tie.Need-returns-2
 returns-2 c = entry-past (c .before .args .book .now) (c .before .args .index) (c .if1 .left)
 
 pub price-at-spec : {M : Type 1} → statement M
-price-at-spec = tie.close (tie.spec mul-result shared-slice-read-result returns returns-2)
+price-at-spec = tie.close (tie.spec (λ c. search needs) (λ c. search needs) (λ c. search needs) returns-2)

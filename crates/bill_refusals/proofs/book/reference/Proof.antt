@@ -8,18 +8,9 @@ use borrow.Author.Needs.{needs}
 use Rattle.bill_refusals.proofs.book.reference.Statement.{statement}
 use Rattle.bill_refusals.proofs.book.reference.Tie as tie
 
-is-flexible-requires : tie.Need-is-flexible-requires
-is-flexible-requires c κs = search needs
-
 returns : tie.Need-returns
 unfolding reference
 returns c = let start = c .before .before .before in flexible-price (start .args .contract .kind) (start .args .wap) (getD (start .args .book .now) (bookIndex (start .args .contract .fuel) (start .args .contract .kind) (start .args .first)) 0) (sym (c .before .is-flexible .ensures) ∙ c .if1 .taken)
-
-index-of-requires : tie.Need-index-of-requires
-index-of-requires c κs = search needs
-
-price-at-requires : tie.Need-price-at-requires
-price-at-requires c κs = search needs
 
 returns-2 : tie.Need-returns-2
 unfolding reference
@@ -30,4 +21,4 @@ returns-2 c =
 
 pub reference-spec : {M : Type 1} → statement M
 reference-spec =
-    tie.close (tie.spec is-flexible-requires returns index-of-requires price-at-requires returns-2)
+    tie.close (tie.spec (λ c κs. search needs) returns (λ c κs. search needs) (λ c κs. search needs) returns-2)

@@ -12,9 +12,6 @@ use borrow.Author.Needs.{needs}
 use Rattle.bill_refusals.proofs.refusals.any_row.Statement.{statement}
 use Rattle.bill_refusals.proofs.refusals.any_row.Tie as tie
 
-first-row-requires : tie.Need-first-row-requires
-first-row-requires c κs = search needs
-
 returns : tie.Need-returns
 returns c =
     let start = c .before .before in
@@ -22,4 +19,4 @@ returns c =
     ∙ sym (count-at (rowPasses (start .args .test)) (ledgerOf document01 packedLayout (start .args .b .now) .rows)) ∙ ap (ltb 0) (view-held (start .args .b .now) (rowPasses (start .args .test)))
 
 pub any-row-spec : {M : Type 1} → statement M
-any-row-spec = tie.close (tie.spec first-row-requires returns)
+any-row-spec = tie.close (tie.spec (λ c κs. search needs) returns)

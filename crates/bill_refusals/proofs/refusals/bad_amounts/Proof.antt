@@ -39,9 +39,6 @@ returns-3 : tie.Need-returns-3
 unfolding badAmounts
 returns-3 c = simp (kwh-low (c .before .before .before .before), supply-low (c .before .before), wap-high c)
 
-is-flexible-requires : tie.Need-is-flexible-requires
-is-flexible-requires c κs = search needs
-
 returns-4 : tie.Need-returns-4
 unfolding badAmounts
 returns-4 c =
@@ -63,4 +60,4 @@ returns-6 c =
 pub bad-amounts-spec : {M : Type 1} → statement M
 bad-amounts-spec =
     tie.close
-    (tie.spec returns returns-2 returns-3 is-flexible-requires returns-4 returns-5 returns-6)
+    (tie.spec returns returns-2 returns-3 (λ c κs. search needs) returns-4 returns-5 returns-6)

@@ -9,26 +9,17 @@ use borrow.Author.Needs.{needs}
 use Rattle.bill_refusals.proofs.refusals.no_price.Statement.{statement}
 use Rattle.bill_refusals.proofs.refusals.no_price.Tie as tie
 
-cast-c : tie.Need-cast-c
-cast-c c = search needs
-
 contract-at-requires : tie.Need-contract-at-requires
 contract-at-requires c κs =
     let start = c .before .before .before in
     let opened = start .pre in
     (formed-length (start .args .b .now) (opened .searched .formed), (opened .low, ap (λ (cs : Contracts). isOpen cs (start .args .request .contract)) (view-contracts (start .args .b .now)) ∙ opened .open′))
 
-is-flexible-requires : tie.Need-is-flexible-requires
-is-flexible-requires c κs = search needs
-
 returns : tie.Need-returns
 returns c =
     let start = c .before .before .before .before .before .before in
     price-flexible _ (billRequest (start .args .request) (start .args .book .now)) (c .before .before .contract-at .ensures ∙ ap (λ (cs : Contracts). contractAt cs (start .args .request .contract)) (view-contracts (start .args .b .now)))
     (sym (c .before .is-flexible .ensures) ∙ c .if1 .taken)
-
-reference-requires : tie.Need-reference-requires
-reference-requires c κs = search needs
 
 returns-2 : tie.Need-returns-2
 returns-2 c =
@@ -46,10 +37,10 @@ pub no-price-spec : {M : Type 1} → statement M
 no-price-spec =
     tie.close
     (tie.spec
-    cast-c
+    (λ c. search needs)
     contract-at-requires
-    is-flexible-requires
+    (λ c κs. search needs)
     returns
-    reference-requires
+    (λ c κs. search needs)
     returns-2
     returns-3)

@@ -7,9 +7,6 @@ use borrow.Author.Needs.{needs}
 use Rattle.bill_refusals.proofs.refusals.refused_bill.Statement.{statement}
 use Rattle.bill_refusals.proofs.refusals.refused_bill.Tie as tie
 
-refused-request-requires : tie.Need-refused-request-requires
-refused-request-requires c κs = search needs
-
 refused-new-row-requires : tie.Need-refused-new-row-requires
 refused-new-row-requires c κs =
     let start = c .before .before .before .before in
@@ -32,4 +29,4 @@ returns-2 c =
 
 pub refused-bill-spec : {M : Type 1} → statement M
 refused-bill-spec =
-    tie.close (tie.spec refused-request-requires refused-new-row-requires returns returns-2)
+    tie.close (tie.spec (λ c κs. search needs) refused-new-row-requires returns returns-2)

@@ -23,9 +23,6 @@ returns-2 c =
     let opened = ap (λ (cs : Contracts). isOpen cs (start .args .contract)) (sym (view-contracts (start .args .b .now))) in
     cancel-5 v _ _ (c .before .before .if1 .left) (opened ∙ sym (c .before .is-open .ensures) ∙ not-yes _ (c .if2 .taken))
 
-any-row-requires : tie.Need-any-row-requires
-any-row-requires c κs = search needs
-
 returns-3 : tie.Need-returns-3
 returns-3 c =
     let start = c .before .before .before .before .before .before in
@@ -42,4 +39,4 @@ returns-4 c =
 
 pub refused-cancel-spec : {M : Type 1} → statement M
 refused-cancel-spec =
-    tie.close (tie.spec returns is-open-requires returns-2 any-row-requires returns-3 returns-4)
+    tie.close (tie.spec returns is-open-requires returns-2 (λ c κs. search needs) returns-3 returns-4)

@@ -7,18 +7,12 @@ use borrow.Author.Needs.{needs}
 use Rattle.bill_refusals.proofs.refusals.refused_new_row.Statement.{statement}
 use Rattle.bill_refusals.proofs.refusals.refused_new_row.Tie as tie
 
-any-row-requires : tie.Need-any-row-requires
-any-row-requires c κs = search needs
-
 returns : tie.Need-returns
 returns c =
     let start = c .before .before .before .before in
     let v = viewOf (start .args .b .now) in
     let q = billRequest (start .args .request) (start .args .book .now) in
     bill-10 v q (sym (c .before .any-row .ensures) ∙ c .if1 .taken)
-
-no-price-requires : tie.Need-no-price-requires
-no-price-requires c κs = search needs
 
 returns-2 : tie.Need-returns-2
 returns-2 c =
@@ -43,4 +37,4 @@ returns-4 c =
 
 pub refused-new-row-spec : {M : Type 1} → statement M
 refused-new-row-spec =
-    tie.close (tie.spec any-row-requires returns no-price-requires returns-2 returns-3 returns-4)
+    tie.close (tie.spec (λ c κs. search needs) returns (λ c κs. search needs) returns-2 returns-3 returns-4)

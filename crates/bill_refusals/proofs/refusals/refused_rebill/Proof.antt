@@ -7,9 +7,6 @@ use borrow.Author.Needs.{needs}
 use Rattle.bill_refusals.proofs.refusals.refused_rebill.Statement.{statement}
 use Rattle.bill_refusals.proofs.refusals.refused_rebill.Tie as tie
 
-refused-request-requires : tie.Need-refused-request-requires
-refused-request-requires c κs = search needs
-
 refused-row-again-requires : tie.Need-refused-row-again-requires
 refused-row-again-requires c κs =
     let start = c .before .before .before .before in
@@ -32,4 +29,4 @@ returns-2 c =
 
 pub refused-rebill-spec : {M : Type 1} → statement M
 refused-rebill-spec =
-    tie.close (tie.spec refused-request-requires refused-row-again-requires returns returns-2)
+    tie.close (tie.spec (λ c κs. search needs) refused-row-again-requires returns returns-2)

@@ -12,9 +12,6 @@ use borrow.Author.Needs.{needs}
 use Rattle.bill_refusals.proofs.refusals.refused_request.Statement.{statement}
 use Rattle.bill_refusals.proofs.refusals.refused_request.Tie as tie
 
-bad-book-requires : tie.Need-bad-book-requires
-bad-book-requires c κs = search needs
-
 returns : tie.Need-returns
 returns c =
     let start = c .before .before .before .before in
@@ -22,9 +19,6 @@ returns c =
     let q = billRequest (start .args .request) (start .args .book .now) in
     let opened = ap (λ (cs : Contracts). isOpen cs (start .args .request .contract)) (sym (view-contracts (start .args .b .now))) in
     shared-3 v q (sym (c .before .bad-book .ensures) ∙ c .if1 .taken)
-
-cast-c : tie.Need-cast-c
-cast-c c = search needs
 
 returns-2 : tie.Need-returns-2
 returns-2 c =
@@ -45,9 +39,6 @@ returns-3 c =
     let opened = ap (λ (cs : Contracts). isOpen cs (start .args .request .contract)) (sym (view-contracts (start .args .b .now))) in
     shared-5 v q (sym (c .before .before .before .before .before .bad-book .ensures) ∙ c .before .before .before .before .if1 .left) (c .before .before .if2 .left) (opened ∙ sym (c .before .is-open .ensures) ∙ not-yes _ (c .if3 .taken))
 
-bad-span-requires : tie.Need-bad-span-requires
-bad-span-requires c κs = search needs
-
 returns-4 : tie.Need-returns-4
 returns-4 c =
     let start = c .before .before .before .before .before .before .before .before .before .before in
@@ -60,9 +51,6 @@ contract-at-requires : tie.Need-contract-at-requires
 contract-at-requires c κs =
     let start = c .before .before .before .before .before .before .before .before .before .before in
     (formed-length (start .args .b .now) (start .pre .formed), (omega (arith, c .before .before .before .before .if2 .left), sym (c .before .before .before .is-open .ensures) ∙ not-no _ (c .before .before .if3 .left)))
-
-bad-amounts-requires : tie.Need-bad-amounts-requires
-bad-amounts-requires c κs = search needs
 
 returns-5 : tie.Need-returns-5
 unfolding badAmounts
@@ -90,15 +78,15 @@ pub refused-request-spec : {M : Type 1} → statement M
 refused-request-spec =
     tie.close
     (tie.spec
-    bad-book-requires
+    (λ c κs. search needs)
     returns
-    cast-c
+    (λ c. search needs)
     returns-2
     is-open-requires
     returns-3
-    bad-span-requires
+    (λ c κs. search needs)
     returns-4
     contract-at-requires
-    bad-amounts-requires
+    (λ c κs. search needs)
     returns-5
     returns-6)

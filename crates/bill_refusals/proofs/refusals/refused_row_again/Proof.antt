@@ -7,9 +7,6 @@ use borrow.Author.Needs.{needs}
 use Rattle.bill_refusals.proofs.refusals.refused_row_again.Statement.{statement}
 use Rattle.bill_refusals.proofs.refusals.refused_row_again.Tie as tie
 
-any-row-requires : tie.Need-any-row-requires
-any-row-requires c κs = search needs
-
 returns : tie.Need-returns
 returns c =
     let start = c .before .before .before .before in
@@ -17,18 +14,12 @@ returns c =
     let q = billRequest (start .args .request) (start .args .book .now) in
     rebill-9 v q (sym (c .before .any-row .ensures) ∙ not-yes _ (c .if1 .taken))
 
-any-row-requires-2 : tie.Need-any-row-requires-2
-any-row-requires-2 c κs = search needs
-
 returns-2 : tie.Need-returns-2
 returns-2 c =
     let start = c .before .before .before .before .before .before in
     let v = viewOf (start .args .b .now) in
     let q = billRequest (start .args .request) (start .args .book .now) in
     rebill-10 v q (sym (c .before .before .before .any-row .ensures) ∙ not-no _ (c .before .before .if1 .left)) (sym (c .before .any-row2 .ensures) ∙ c .if2 .taken)
-
-no-price-requires : tie.Need-no-price-requires
-no-price-requires c κs = search needs
 
 returns-3 : tie.Need-returns-3
 returns-3 c =
@@ -48,10 +39,10 @@ pub refused-row-again-spec : {M : Type 1} → statement M
 refused-row-again-spec =
     tie.close
     (tie.spec
-    any-row-requires
+    (λ c κs. search needs)
     returns
-    any-row-requires-2
+    (λ c κs. search needs)
     returns-2
-    no-price-requires
+    (λ c κs. search needs)
     returns-3
     returns-4)

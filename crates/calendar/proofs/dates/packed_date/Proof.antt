@@ -5,15 +5,9 @@ use Rattle.calendar.specs.Days.{dates, dateOf, packed, noDate}
 use Rattle.calendar.proofs.dates.packed_date.Statement.{statement}
 use Rattle.calendar.proofs.dates.packed_date.Tie as tie
 
-mul-result : tie.Need-mul-result
-mul-result c = search needs
-
-array-read-result : tie.Need-array-read-result
-array-read-result c = search needs
-
 returns : tie.Need-returns
 unfolding dates dateOf
 returns c = List·getD-map packed dates (c .args .day) noDate
 
 pub packed-date-spec : {M : Type 1} → statement M
-packed-date-spec = tie.close (tie.spec mul-result array-read-result returns)
+packed-date-spec = tie.close (tie.spec (λ c. search needs) (λ c. search needs) returns)

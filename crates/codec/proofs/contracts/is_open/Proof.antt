@@ -10,12 +10,9 @@ use borrow.Author.Needs.{needs}
 use Rattle.codec.proofs.contracts.is_open.Statement.{statement}
 use Rattle.codec.proofs.contracts.is_open.Tie as tie
 
-get-requires : tie.Need-get-requires
-get-requires c κs = search needs
-
 returns : tie.Need-returns
 unfolding isTaken slotNumbers unpack fields
 returns c = ap (λ (n : ℕ). not (eqb n 0)) (c .get .ensures)
 
 pub is-open-spec : {M : Type 1} → statement M
-is-open-spec = tie.close (tie.spec get-requires returns)
+is-open-spec = tie.close (tie.spec (λ c κs. search needs) returns)

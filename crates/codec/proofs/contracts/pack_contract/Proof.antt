@@ -15,48 +15,6 @@ use borrow.Author.Needs.{needs}
 use Rattle.codec.proofs.contracts.pack_contract.Statement.{statement}
 use Rattle.codec.proofs.contracts.pack_contract.Tie as tie
 
-fuel-code-requires : tie.Need-fuel-code-requires
-fuel-code-requires c κs = search needs
-
-cast-t9 : tie.Need-cast-t9
-cast-t9 c = search needs
-
-kind-code-requires : tie.Need-kind-code-requires
-kind-code-requires c κs = search needs
-
-cast-t11 : tie.Need-cast-t11
-cast-t11 c = search needs
-
-price-fix-day-requires : tie.Need-price-fix-day-requires
-price-fix-day-requires c κs = search needs
-
-cast-t13 : tie.Need-cast-t13
-cast-t13 c = search needs
-
-entry-day-requires : tie.Need-entry-day-requires
-entry-day-requires c κs = search needs
-
-cast-t15 : tie.Need-cast-t15
-cast-t15 c = search needs
-
-class-code-requires : tie.Need-class-code-requires
-class-code-requires c κs = search needs
-
-cast-t17 : tie.Need-cast-t17
-cast-t17 c = search needs
-
-effective-day-requires : tie.Need-effective-day-requires
-effective-day-requires c κs = search needs
-
-cast-t19 : tie.Need-cast-t19
-cast-t19 c = search needs
-
-slice-aggregate-put-all : tie.Need-slice-aggregate-put-all
-slice-aggregate-put-all c = search needs
-
-slice-aggregate-put-all-2 : tie.Need-slice-aggregate-put-all-2
-slice-aggregate-put-all-2 c = search needs
-
 -- the numbers that are packed
 abbrev numbers : tie.After-values → List ℕ
 numbers c =
@@ -93,9 +51,6 @@ numbers-fit c =
 put-all-requires : tie.Need-put-all-requires
 put-all-requires c κs = (omega (arith, c .before .before .before .before .before .before .before .before .before .before .pre .0), (omega arith, (refl, numbers-fit c)))
 
-same-length : tie.Need-same-length
-same-length c = search needs
-
 returns : tie.Need-returns
 unfolding recordBytes size
 returns c =
@@ -108,20 +63,20 @@ pub pack-contract-spec : {M : Type 1} → statement M
 pack-contract-spec =
     tie.close
     (tie.spec
-    fuel-code-requires
-    cast-t9
-    kind-code-requires
-    cast-t11
-    price-fix-day-requires
-    cast-t13
-    entry-day-requires
-    cast-t15
-    class-code-requires
-    cast-t17
-    effective-day-requires
-    cast-t19
-    slice-aggregate-put-all
-    slice-aggregate-put-all-2
+    (λ c κs. search needs)
+    (λ c. search needs)
+    (λ c κs. search needs)
+    (λ c. search needs)
+    (λ c κs. search needs)
+    (λ c. search needs)
+    (λ c κs. search needs)
+    (λ c. search needs)
+    (λ c κs. search needs)
+    (λ c. search needs)
+    (λ c κs. search needs)
+    (λ c. search needs)
+    (λ c. search needs)
+    (λ c. search needs)
     put-all-requires
-    same-length
+    (λ c. search needs)
     returns)

@@ -13,18 +13,9 @@ use borrow.Author.Needs.{needs}
 use Rattle.codec.proofs.contracts.slot_ok.Statement.{statement}
 use Rattle.codec.proofs.contracts.slot_ok.Tie as tie
 
-get-requires : tie.Need-get-requires
-get-requires c κs = search needs
-
 returns : tie.Need-returns
 unfolding slotNumbers unpack fields
 returns c = sym (padding-set _ _ _ _ _ _ _ _ _ (λ e. c .if1 .taken (c .before .get .ensures ∙ e)))
-
-get-requires-2 : tie.Need-get-requires-2
-get-requires-2 c κs = search needs
-
-is-zero-requires : tie.Need-is-zero-requires
-is-zero-requires c κs = search needs
 
 returns-2 : tie.Need-returns-2
 unfolding slotNumbers unpack fields size
@@ -33,27 +24,6 @@ returns-2 c =
     c .is-zero .ensures
     ∙ zeroAt-fields (start .args .s .now) 0 (whole contractKind) (λ i. omega (arith, c .before .before .before .before .before .shared-slice-known .given i)) refl (omega (arith, start .pre))
     ∙ sym (slot-closed _ _ _ _ _ _ _ _ _ (sym (c .before .before .before .before .get .ensures) ∙ c .before .before .before .if1 .left) (sym (c .before .before .get2 .ensures) ∙ c .before .if2 .taken))
-
-get-requires-3 : tie.Need-get-requires-3
-get-requires-3 c κs = search needs
-
-get-requires-4 : tie.Need-get-requires-4
-get-requires-4 c κs = search needs
-
-get-requires-5 : tie.Need-get-requires-5
-get-requires-5 c κs = search needs
-
-get-requires-6 : tie.Need-get-requires-6
-get-requires-6 c κs = search needs
-
-get-requires-7 : tie.Need-get-requires-7
-get-requires-7 c κs = search needs
-
-get-requires-8 : tie.Need-get-requires-8
-get-requires-8 c κs = search needs
-
-contract-ranges-requires : tie.Need-contract-ranges-requires
-contract-ranges-requires c κs = search needs
 
 returns-3 : tie.Need-returns-3
 unfolding slotNumbers unpack fields
@@ -68,16 +38,16 @@ pub slot-ok-spec : {M : Type 1} → statement M
 slot-ok-spec =
     tie.close
     (tie.spec
-    get-requires
+    (λ c κs. search needs)
     returns
-    get-requires-2
-    is-zero-requires
+    (λ c κs. search needs)
+    (λ c κs. search needs)
     returns-2
-    get-requires-3
-    get-requires-4
-    get-requires-5
-    get-requires-6
-    get-requires-7
-    get-requires-8
-    contract-ranges-requires
+    (λ c κs. search needs)
+    (λ c κs. search needs)
+    (λ c κs. search needs)
+    (λ c κs. search needs)
+    (λ c κs. search needs)
+    (λ c κs. search needs)
+    (λ c κs. search needs)
     returns-3)

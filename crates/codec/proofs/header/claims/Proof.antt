@@ -6,12 +6,9 @@ use borrow.Author.Needs.{needs}
 use Rattle.codec.proofs.header.claims.Statement.{statement}
 use Rattle.codec.proofs.header.claims.Tie as tie
 
-get-requires : tie.Need-get-requires
-get-requires c κs = search needs
-
 returns : tie.Need-returns
 unfolding claimsIn unpack fields
 returns c = c .get .ensures
 
 pub claims-spec : {M : Type 1} → statement M
-claims-spec = tie.close (tie.spec get-requires returns)
+claims-spec = tie.close (tie.spec (λ c κs. search needs) returns)

@@ -6,12 +6,9 @@ use borrow.Author.Needs.{needs}
 use Rattle.codec.proofs.header.territory.Statement.{statement}
 use Rattle.codec.proofs.header.territory.Tie as tie
 
-get-requires : tie.Need-get-requires
-get-requires c κs = search needs
-
 returns : tie.Need-returns
 unfolding territoryIn unpack fields
 returns c = c .get .ensures
 
 pub territory-spec : {M : Type 1} → statement M
-territory-spec = tie.close (tie.spec get-requires returns)
+territory-spec = tie.close (tie.spec (λ c κs. search needs) returns)

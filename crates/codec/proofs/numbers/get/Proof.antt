@@ -4,16 +4,10 @@ use borrow.Author.Needs.{needs}
 use Rattle.codec.proofs.numbers.get.Statement.{statement}
 use Rattle.codec.proofs.numbers.get.Tie as tie
 
-get-requires : tie.Need-get-requires
-get-requires c κs = search needs
-
 cast-result : tie.Need-cast-result
 cast-result c =
     let start = c .before .before in
     narrow (start .args .s .now) (start .args .at) (start .args .w) (c .get .result) (start .pre .1 .0) (c .get .ensures)
 
-returns : tie.Need-returns
-returns c = search needs
-
 pub get-spec : {M : Type 1} → statement M
-get-spec = tie.close (tie.spec get-requires cast-result returns)
+get-spec = tie.close (tie.spec (λ c κs. search needs) cast-result (λ c. search needs))

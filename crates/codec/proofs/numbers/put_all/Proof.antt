@@ -25,12 +25,6 @@ loop-holds : tie.Need-loop-holds Inv-loop μ-loop
 unfolding setFields
 loop-holds c = (omega arith, (refl, (refl, refl)))
 
-mul-w : tie.Need-mul-w Inv-loop μ-loop
-mul-w c = search needs
-
-shared-slice-read-w : tie.Need-shared-slice-read-w Inv-loop μ-loop
-shared-slice-read-w c = search needs
-
 mul-put : tie.Need-mul-put Inv-loop μ-loop
 mul-put c =
     let start = c .before .before .before .before .before .before .before in
@@ -58,12 +52,6 @@ add-at c =
     let at-loop = at-turn .before in
     let start = at-loop .before .before .before .before in
     omega (arith, sum-more (start .args .widths .now) (at-loop .loop .j) (at-turn .loop-test .taken))
-
-add-j : tie.Need-add-j Inv-loop μ-loop
-add-j c = search needs
-
-loop-less : tie.Need-loop-less Inv-loop μ-loop
-loop-less c = search needs
 
 loop-again : tie.Need-loop-again Inv-loop μ-loop
 loop-again c =
@@ -102,14 +90,14 @@ put-all-spec =
     Inv-loop
     μ-loop
     loop-holds
-    mul-w
-    shared-slice-read-w
+    (λ c. search needs)
+    (λ c. search needs)
     mul-put
     shared-slice-read-put
     put-requires
     add-at
-    add-j
-    loop-less
+    (λ c. search needs)
+    (λ c. search needs)
     loop-again
     same-length
     returns)

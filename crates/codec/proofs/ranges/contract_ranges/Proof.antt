@@ -6,15 +6,9 @@ use borrow.Author.Needs.{needs}
 use Rattle.codec.proofs.ranges.contract_ranges.Statement.{statement}
 use Rattle.codec.proofs.ranges.contract_ranges.Tie as tie
 
-bad-kind-requires : tie.Need-bad-kind-requires
-bad-kind-requires c κs = search needs
-
 returns : tie.Need-returns
 unfolding contractRanges
 returns c = simp (sym (c .before .bad-kind .ensures) ∙ c .if1 .taken)
-
-bad-days-requires : tie.Need-bad-days-requires
-bad-days-requires c κs = search needs
 
 returns-2 : tie.Need-returns-2
 unfolding contractRanges
@@ -23,9 +17,6 @@ returns-2 c = simp (sym (c .before .before .before .bad-kind .ensures) ∙ c .be
 returns-3 : tie.Need-returns-3
 unfolding contractRanges
 returns-3 c = simp (sym (c .before .before .before .before .bad-kind .ensures) ∙ c .before .before .before .if1 .left, sym (c .before .before .bad-days .ensures) ∙ c .before .if2 .left, lt-ltb _ _ (c .if3 .taken))
-
-bad-effective-requires : tie.Need-bad-effective-requires
-bad-effective-requires c κs = search needs
 
 returns-4 : tie.Need-returns-4
 unfolding contractRanges
@@ -39,11 +30,11 @@ pub contract-ranges-spec : {M : Type 1} → statement M
 contract-ranges-spec =
     tie.close
     (tie.spec
-    bad-kind-requires
+    (λ c κs. search needs)
     returns
-    bad-days-requires
+    (λ c κs. search needs)
     returns-2
     returns-3
-    bad-effective-requires
+    (λ c κs. search needs)
     returns-4
     returns-5)

@@ -10,12 +10,9 @@ use borrow.Author.Needs.{needs}
 use Rattle.codec.proofs.rows.is_held.Statement.{statement}
 use Rattle.codec.proofs.rows.is_held.Tie as tie
 
-get-window-requires : tie.Need-get-window-requires
-get-window-requires c κs = search needs
-
 returns : tie.Need-returns
 unfolding isTaken slotNumbers unpack fields
 returns c = ap (λ (n : ℕ). not (eqb n 0)) (c .get-window .ensures)
 
 pub is-held-spec : {M : Type 1} → statement M
-is-held-spec = tie.close (tie.spec get-window-requires returns)
+is-held-spec = tie.close (tie.spec (λ c κs. search needs) returns)

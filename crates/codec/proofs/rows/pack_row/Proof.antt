@@ -11,22 +11,10 @@ use borrow.Author.Needs.{needs}
 use Rattle.codec.proofs.rows.pack_row.Statement.{statement}
 use Rattle.codec.proofs.rows.pack_row.Tie as tie
 
-slot-numbers-requires : tie.Need-slot-numbers-requires
-slot-numbers-requires c κs = search needs
-
-slice-aggregate-put-all : tie.Need-slice-aggregate-put-all
-slice-aggregate-put-all c = search needs
-
-slice-aggregate-put-all-2 : tie.Need-slice-aggregate-put-all-2
-slice-aggregate-put-all-2 c = search needs
-
 put-all-requires : tie.Need-put-all-requires
 put-all-requires c κs =
     let start = c .before .before .before .before .before in
     (omega (arith, start .pre .0), (omega arith, (refl, subst (Fit (whole rowKind)) (sym (c .before .before .before .slot-numbers .ensures)) (whole-fits rowKind (start .args .row) (start .pre .1)))))
-
-same-length : tie.Need-same-length
-same-length c = search needs
 
 returns : tie.Need-returns
 unfolding recordBytes slotOut size
@@ -43,9 +31,9 @@ pub pack-row-spec : {M : Type 1} → statement M
 pack-row-spec =
     tie.close
     (tie.spec
-    slot-numbers-requires
-    slice-aggregate-put-all
-    slice-aggregate-put-all-2
+    (λ c κs. search needs)
+    (λ c. search needs)
+    (λ c. search needs)
     put-all-requires
-    same-length
+    (λ c. search needs)
     returns)

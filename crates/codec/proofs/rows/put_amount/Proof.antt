@@ -5,12 +5,6 @@ use borrow.Author.Needs.{needs}
 use Rattle.codec.proofs.rows.put_amount.Statement.{statement}
 use Rattle.codec.proofs.rows.put_amount.Tie as tie
 
-put-window-requires : tie.Need-put-window-requires
-put-window-requires c κs = search needs
-
-same-length : tie.Need-same-length
-same-length c = search needs
-
 returns : tie.Need-returns
 returns c =
     let at-put = c .before .before in
@@ -20,4 +14,4 @@ returns c =
     ∙ amount-written (start .args .s .now) (start .args .amount) (λ k. at-known .slice-known .given k .fits) (start .pre .0) (start .pre .1 .0) (start .pre .1 .1)
 
 pub put-amount-spec : {M : Type 1} → statement M
-put-amount-spec = tie.close (tie.spec put-window-requires same-length returns)
+put-amount-spec = tie.close (tie.spec (λ c κs. search needs) (λ c. search needs) returns)

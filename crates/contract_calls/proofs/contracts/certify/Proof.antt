@@ -6,9 +6,6 @@ use borrow.Author.Needs.{needs}
 use Rattle.contract_calls.proofs.contracts.certify.Statement.{statement}
 use Rattle.contract_calls.proofs.contracts.certify.Tie as tie
 
-certificate-of-requires : tie.Need-certificate-of-requires
-certificate-of-requires c κs = search needs
-
 returns : tie.Need-returns
 unfolding certify
 returns c =
@@ -16,4 +13,4 @@ returns c =
     ap (λ (k : Certificate). record { fuel = contract .fuel; kind = contract .kind; certificate = k }) (c .certificate-of .ensures)
 
 pub certify-spec : {M : Type 1} → statement M
-certify-spec = tie.close (tie.spec certificate-of-requires returns)
+certify-spec = tie.close (tie.spec (λ c κs. search needs) returns)

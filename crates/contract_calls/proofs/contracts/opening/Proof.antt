@@ -8,15 +8,9 @@ use borrow.Author.Needs.{needs}
 use Rattle.contract_calls.proofs.contracts.opening.Statement.{statement}
 use Rattle.contract_calls.proofs.contracts.opening.Tie as tie
 
-fuel-of-requires : tie.Need-fuel-of-requires
-fuel-of-requires c κs = search needs
-
-kind-of-requires : tie.Need-kind-of-requires
-kind-of-requires c κs = search needs
-
 returns : tie.Need-returns
 unfolding opening
 returns c = ap₂ (λ (f : Fuel) (k : Kind). record { fuel = f; kind = k; certificate = None }) (c .before .fuel-of .ensures) (c .kind-of .ensures)
 
 pub opening-spec : {M : Type 1} → statement M
-opening-spec = tie.close (tie.spec fuel-of-requires kind-of-requires returns)
+opening-spec = tie.close (tie.spec (λ c κs. search needs) (λ c κs. search needs) returns)

@@ -23,9 +23,6 @@ returns : tie.Need-returns
 unfolding refusal tests
 returns c = simp (lt-ltb _ _ (c .if1 .taken))
 
-is-open-requires : tie.Need-is-open-requires
-is-open-requires c κs = search needs
-
 returns-2 : tie.Need-returns-2
 unfolding refusal tests view ledgerOf
 returns-2 c = simp (le-ltb _ _ (c .before .before .if1 .left), sym (c .before .is-open .ensures) ∙ not-yes _ (c .if2 .taken))
@@ -35,9 +32,6 @@ unfolding refusal tests view ledgerOf
 returns-3 c =
     let at-open = c .before .before in
     simp (le-ltb _ _ (at-open .before .if1 .left), sym (at-open .is-open .ensures) ∙ not-no _ (c .before .if2 .left), class-high c)
-
-bad-effective-requires : tie.Need-bad-effective-requires
-bad-effective-requires c κs = search needs
 
 returns-4 : tie.Need-returns-4
 unfolding refusal tests view ledgerOf
@@ -60,9 +54,9 @@ refused-cert-spec =
     tie.close
     (tie.spec
     returns
-    is-open-requires
+    (λ c κs. search needs)
     returns-2
     returns-3
-    bad-effective-requires
+    (λ c κs. search needs)
     returns-4
     returns-5)

@@ -13,27 +13,15 @@ returns : tie.Need-returns
 unfolding refusal tests
 returns c = simp (lt-ltb _ _ (c .if1 .taken))
 
-is-open-requires : tie.Need-is-open-requires
-is-open-requires c κs = search needs
-
 returns-2 : tie.Need-returns-2
 unfolding refusal tests view ledgerOf
 returns-2 c = simp (le-ltb _ _ (c .before .before .if1 .left), sym (c .before .is-open .ensures) ∙ c .if2 .taken)
-
-territory-requires : tie.Need-territory-requires
-territory-requires c κs = search needs
-
-bad-kind-requires : tie.Need-bad-kind-requires
-bad-kind-requires c κs = search needs
 
 returns-3 : tie.Need-returns-3
 unfolding refusal tests view ledgerOf
 returns-3 c =
     let at-open = c .before .before .before .before in
     simp (le-ltb _ _ (at-open .before .if1 .left), sym (at-open .is-open .ensures) ∙ c .before .before .before .if2 .left, sym (c .before .before .territory .ensures), sym (c .before .bad-kind .ensures) ∙ c .if3 .taken)
-
-bad-days-requires : tie.Need-bad-days-requires
-bad-days-requires c κs = search needs
 
 returns-4 : tie.Need-returns-4
 unfolding refusal tests view ledgerOf
@@ -56,11 +44,11 @@ refused-open-spec =
     tie.close
     (tie.spec
     returns
-    is-open-requires
+    (λ c κs. search needs)
     returns-2
-    territory-requires
-    bad-kind-requires
+    (λ c κs. search needs)
+    (λ c κs. search needs)
     returns-3
-    bad-days-requires
+    (λ c κs. search needs)
     returns-4
     returns-5)

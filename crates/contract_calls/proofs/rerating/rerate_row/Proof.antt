@@ -13,12 +13,6 @@ use Rattle.contract_calls.proofs.rerating.rerate_row.Tie as tie
 ratable : (c : tie.After-row-at) → Ratable (c .row-at .result)
 ratable c = subst Ratable (sym (c .row-at .ensures)) (c .before .before .before .pre .1 .1 .ratable)
 
-row-at-requires : tie.Need-row-at-requires
-row-at-requires c κs = search needs
-
-same-length : tie.Need-same-length
-same-length c = search needs
-
 returns : tie.Need-returns
 returns c =
     let at-row = c .before .before .before in
@@ -35,9 +29,6 @@ replace-amount-requires c κs =
     let start = at-row .before .before .before in
     (start .pre .0, (start .pre .1 .0, (start .pre .1 .1 .taken, rated-low (start .args .terms) (at-row .row-at .result) (c .before .amount .result) (ratable at-row) (c .before .amount .ensures))))
 
-same-length-2 : tie.Need-same-length-2
-same-length-2 c = search needs
-
 returns-2 : tie.Need-returns-2
 returns-2 c =
     let at-replace = c .before .before .before .before in
@@ -47,9 +38,6 @@ returns-2 c =
     let after : List ℕ = at-replace .replace-amount .last .0 in
     subst (λ (x : Row). LeftOf (a .contract) (a .terms) x (a .i) (a .b .now) (record { due = at-amount .amount .result; changed = 0 }) after) (at-row .row-at .ensures)
     (row-same (a .contract) (a .terms) (at-row .row-at .result) (a .i) (a .b .now) (at-amount .before .if1 .left) (at-amount .amount .result) (at-amount .amount .ensures) after (amount-put (a .b .now) after (a .i) (at-amount .amount .result) (at-row .row-at .result) (at-row .row-at .ensures) (at-replace .replace-amount .ensures)) (c .if2 .taken))
-
-same-length-3 : tie.Need-same-length-3
-same-length-3 c = search needs
 
 returns-3 : tie.Need-returns-3
 returns-3 c =
@@ -65,12 +53,12 @@ pub rerate-row-spec : {M : Type 1} → statement M
 rerate-row-spec =
     tie.close
     (tie.spec
-    row-at-requires
-    same-length
+    (λ c κs. search needs)
+    (λ c. search needs)
     returns
     amount-requires
     replace-amount-requires
-    same-length-2
+    (λ c. search needs)
     returns-2
-    same-length-3
+    (λ c. search needs)
     returns-3)

@@ -56,12 +56,6 @@ add-changed c =
     let start = c .before .before .before .before .before .before .before .before .before in
     record { fits = omega (arith, turned (c .before .before) .changes, changes-low (start .args .b .now) (start .pre .formed) (start .args .contract) (start .args .terms)) }
 
-add-i : tie.Need-add-i Inv-loop μ-loop
-add-i c = search needs
-
-loop-less : tie.Need-loop-less Inv-loop μ-loop
-loop-less c = search needs
-
 loop-again : tie.Need-loop-again Inv-loop μ-loop
 loop-again c = (omega arith, turned (c .before .before))
 
@@ -84,8 +78,8 @@ rerate-rows-spec =
     rerate-row-requires
     add-due
     add-changed
-    add-i
-    loop-less
+    (λ c. search needs)
+    (λ c. search needs)
     loop-again
     same-length
     returns)

@@ -7,46 +7,22 @@ use borrow.Author.Needs.{needs}
 use Rattle.ebds_c.proofs.answers.give_date.Statement.{statement}
 use Rattle.ebds_c.proofs.answers.give_date.Tie as tie
 
-enum-known-said : tie.Need-enum-known-said
-enum-known-said c = search needs
-
-cast-put : tie.Need-cast-put
-cast-put c = search needs
-
-cast-put-2 : tie.Need-cast-put-2
-cast-put-2 c = search needs
-
-cast-put-3 : tie.Need-cast-put-3
-cast-put-3 c = search needs
-
-put-requires : tie.Need-put-requires
-put-requires c κs = search needs
-
-enum-known-said-2 : tie.Need-enum-known-said-2
-enum-known-said-2 c = search needs
-
-put-requires-2 : tie.Need-put-requires-2
-put-requires-2 c κs = search needs
-
 returns : tie.Need-returns
 returns c =
     let d = c .before .before .before .before .before .before in
     let v = d .said .given .0 .0 in
     rw (d .said .given .1) (refl, c .put .ensures ∙ rw (toZ-pos w64 (v .year) (omega arith), toZ-pos w64 (v .month) (omega arith), toZ-pos w64 (v .day) (omega arith)))
 
-returns-2 : tie.Need-returns-2
-returns-2 c = search needs
-
 pub give-date-spec : {M : Type 1} → statement M
 give-date-spec =
     tie.close
     (tie.spec
-    enum-known-said
-    cast-put
-    cast-put-2
-    cast-put-3
-    put-requires
-    enum-known-said-2
-    put-requires-2
+    (λ c. search needs)
+    (λ c. search needs)
+    (λ c. search needs)
+    (λ c. search needs)
+    (λ c κs. search needs)
+    (λ c. search needs)
+    (λ c κs. search needs)
     returns
-    returns-2)
+    (λ c. search needs))

@@ -22,74 +22,14 @@ fits8 c = subst AnswerFits (c .said6 .given .1) (c .before .before .pre)
 fits9 : (c : tie.After-said7) → let v = c .said7 .given .0 in AnswerFits (Totalled (v .0) (v .1 .0))
 fits9 c = subst AnswerFits (c .said7 .given .1) (c .before .before .pre)
 
-enum-told : tie.Need-enum-told
-enum-told c = search needs
-
-put-requires : tie.Need-put-requires
-put-requires c κs = search needs
-
-enum-told-2 : tie.Need-enum-told-2
-enum-told-2 c = search needs
-
-put-requires-2 : tie.Need-put-requires-2
-put-requires-2 c κs = search needs
-
-enum-known-said : tie.Need-enum-known-said
-enum-known-said c = search needs
-
-cast-put : tie.Need-cast-put
-cast-put c = search needs
-
 cast-put-2 : tie.Need-cast-put-2
 cast-put-2 c = record { sfits = omega (arith, fits3 (c .before .before) .0) }
 
 cast-put-3 : tie.Need-cast-put-3
 cast-put-3 c = record { sfits = omega (arith, fits3 (c .before .before) .1) }
 
-put-requires-3 : tie.Need-put-requires-3
-put-requires-3 c κs = search needs
-
-enum-known-said-2 : tie.Need-enum-known-said-2
-enum-known-said-2 c = search needs
-
-cast-put-4 : tie.Need-cast-put-4
-cast-put-4 c = search needs
-
 cast-put-5 : tie.Need-cast-put-5
 cast-put-5 c = record { sfits = omega (arith, fits4 (c .before .before)) }
-
-put-requires-4 : tie.Need-put-requires-4
-put-requires-4 c κs = search needs
-
-enum-known-said-3 : tie.Need-enum-known-said-3
-enum-known-said-3 c = search needs
-
-cast-put-6 : tie.Need-cast-put-6
-cast-put-6 c = search needs
-
-put-requires-5 : tie.Need-put-requires-5
-put-requires-5 c κs = search needs
-
-enum-known-said-4 : tie.Need-enum-known-said-4
-enum-known-said-4 c = search needs
-
-put-requires-6 : tie.Need-put-requires-6
-put-requires-6 c κs = search needs
-
-enum-known-said-5 : tie.Need-enum-known-said-5
-enum-known-said-5 c = search needs
-
-cast-put-7 : tie.Need-cast-put-7
-cast-put-7 c = search needs
-
-put-requires-7 : tie.Need-put-requires-7
-put-requires-7 c κs = search needs
-
-enum-known-said-6 : tie.Need-enum-known-said-6
-enum-known-said-6 c = search needs
-
-cast-put-8 : tie.Need-cast-put-8
-cast-put-8 c = search needs
 
 cast-put-9 : tie.Need-cast-put-9
 cast-put-9 c = record { sfits = omega (arith, fits8 (c .before .before) .0) }
@@ -97,23 +37,8 @@ cast-put-9 c = record { sfits = omega (arith, fits8 (c .before .before) .0) }
 cast-put-10 : tie.Need-cast-put-10
 cast-put-10 c = record { sfits = omega (arith, fits8 (c .before .before) .1) }
 
-put-requires-8 : tie.Need-put-requires-8
-put-requires-8 c κs = search needs
-
-enum-known-said-7 : tie.Need-enum-known-said-7
-enum-known-said-7 c = search needs
-
 cast-put-11 : tie.Need-cast-put-11
 cast-put-11 c = record { sfits = omega (arith, fits9 (c .before .before)) }
-
-put-requires-9 : tie.Need-put-requires-9
-put-requires-9 c κs = search needs
-
-returns : tie.Need-returns
-returns c = search needs
-
-returns-2 : tie.Need-returns-2
-returns-2 c = search needs
 
 returns-3 : tie.Need-returns-3
 returns-3 c =
@@ -161,37 +86,37 @@ pub put-values-spec : {M : Type 1} → statement M
 put-values-spec =
     tie.close
     (tie.spec
-    enum-told
-    put-requires
-    enum-told-2
-    put-requires-2
-    enum-known-said
-    cast-put
+    (λ c. search needs)
+    (λ c κs. search needs)
+    (λ c. search needs)
+    (λ c κs. search needs)
+    (λ c. search needs)
+    (λ c. search needs)
     cast-put-2
     cast-put-3
-    put-requires-3
-    enum-known-said-2
-    cast-put-4
+    (λ c κs. search needs)
+    (λ c. search needs)
+    (λ c. search needs)
     cast-put-5
-    put-requires-4
-    enum-known-said-3
-    cast-put-6
-    put-requires-5
-    enum-known-said-4
-    put-requires-6
-    enum-known-said-5
-    cast-put-7
-    put-requires-7
-    enum-known-said-6
-    cast-put-8
+    (λ c κs. search needs)
+    (λ c. search needs)
+    (λ c. search needs)
+    (λ c κs. search needs)
+    (λ c. search needs)
+    (λ c κs. search needs)
+    (λ c. search needs)
+    (λ c. search needs)
+    (λ c κs. search needs)
+    (λ c. search needs)
+    (λ c. search needs)
     cast-put-9
     cast-put-10
-    put-requires-8
-    enum-known-said-7
+    (λ c κs. search needs)
+    (λ c. search needs)
     cast-put-11
-    put-requires-9
-    returns
-    returns-2
+    (λ c κs. search needs)
+    (λ c. search needs)
+    (λ c. search needs)
     returns-3
     returns-4
     returns-5

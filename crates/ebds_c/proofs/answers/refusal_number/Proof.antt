@@ -4,14 +4,8 @@ use borrow.Author.Needs.{needs}
 use Rattle.ebds_c.proofs.answers.refusal_number.Statement.{statement}
 use Rattle.ebds_c.proofs.answers.refusal_number.Tie as tie
 
-enum-known-said : tie.Need-enum-known-said
-enum-known-said c = search needs
-
-returns : tie.Need-returns
-returns c = search needs
-
 returns-2 : tie.Need-returns-2
 returns-2 c = accepted-number (c .before .args .said) (c .match .keys2)
 
 pub refusal-number-spec : {M : Type 1} → statement M
-refusal-number-spec = tie.close (tie.spec enum-known-said returns returns-2)
+refusal-number-spec = tie.close (tie.spec (λ c. search needs) (λ c. search needs) returns-2)

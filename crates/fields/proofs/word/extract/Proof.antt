@@ -4,12 +4,6 @@ use Rattle.fields.proofs.Words.{one-shl-pos, extract-law}
 use Rattle.fields.proofs.word.extract.Statement.{statement}
 use Rattle.fields.proofs.word.extract.Tie as tie
 
-shr-result : tie.Need-shr-result
-shr-result c = search needs
-
-shl-result : tie.Need-shl-result
-shl-result c = search needs
-
 sub-result : tie.Need-sub-result
 sub-result c = one-shl-pos (c .args .w) (c .pre .1)
 
@@ -17,4 +11,4 @@ returns : tie.Need-returns
 returns c = extract-law (c .args .x) (c .args .below) (c .args .w) (c .pre .1)
 
 pub extract-spec : {M : Type 1} → statement M
-extract-spec = tie.close (tie.spec shr-result shl-result sub-result returns)
+extract-spec = tie.close (tie.spec (λ c. search needs) (λ c. search needs) sub-result returns)

@@ -6,12 +6,6 @@ use borrow.Author.Needs.{needs}
 use Rattle.fields.proofs.word.load_eight.Statement.{statement}
 use Rattle.fields.proofs.word.load_eight.Tie as tie
 
-load-little-requires : tie.Need-load-little-requires
-load-little-requires c κs = search needs
-
-reverse-bytes-requires : tie.Need-reverse-bytes-requires
-reverse-bytes-requires c κs = search needs
-
 returns : tie.Need-returns
 returns c =
     let at-known = c .before .before in
@@ -20,4 +14,4 @@ returns c =
     ∙ reversed-little (a .s .now) (a .first) (λ k. at-known .shared-slice-known .given k .fits) (at-known .before .pre)
 
 pub load-eight-spec : {M : Type 1} → statement M
-load-eight-spec = tie.close (tie.spec load-little-requires reverse-bytes-requires returns)
+load-eight-spec = tie.close (tie.spec (λ c κs. search needs) (λ c κs. search needs) returns)

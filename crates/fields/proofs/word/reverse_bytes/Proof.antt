@@ -4,51 +4,6 @@ use borrow.Author.Needs.{needs}
 use Rattle.fields.proofs.word.reverse_bytes.Statement.{statement}
 use Rattle.fields.proofs.word.reverse_bytes.Tie as tie
 
-extract-requires : tie.Need-extract-requires
-extract-requires c κs = search needs
-
-extract-requires-2 : tie.Need-extract-requires-2
-extract-requires-2 c κs = search needs
-
-with-byte-above-requires : tie.Need-with-byte-above-requires
-with-byte-above-requires c κs = search needs
-
-extract-requires-3 : tie.Need-extract-requires-3
-extract-requires-3 c κs = search needs
-
-with-byte-above-requires-2 : tie.Need-with-byte-above-requires-2
-with-byte-above-requires-2 c κs = search needs
-
-extract-requires-4 : tie.Need-extract-requires-4
-extract-requires-4 c κs = search needs
-
-with-byte-above-requires-3 : tie.Need-with-byte-above-requires-3
-with-byte-above-requires-3 c κs = search needs
-
-extract-requires-5 : tie.Need-extract-requires-5
-extract-requires-5 c κs = search needs
-
-with-byte-above-requires-4 : tie.Need-with-byte-above-requires-4
-with-byte-above-requires-4 c κs = search needs
-
-extract-requires-6 : tie.Need-extract-requires-6
-extract-requires-6 c κs = search needs
-
-with-byte-above-requires-5 : tie.Need-with-byte-above-requires-5
-with-byte-above-requires-5 c κs = search needs
-
-extract-requires-7 : tie.Need-extract-requires-7
-extract-requires-7 c κs = search needs
-
-with-byte-above-requires-6 : tie.Need-with-byte-above-requires-6
-with-byte-above-requires-6 c κs = search needs
-
-extract-requires-8 : tie.Need-extract-requires-8
-extract-requires-8 c κs = search needs
-
-with-byte-above-requires-7 : tie.Need-with-byte-above-requires-7
-with-byte-above-requires-7 c κs = search needs
-
 returns : tie.Need-returns
 unfolding reversed
 returns c =
@@ -58,19 +13,19 @@ pub reverse-bytes-spec : {M : Type 1} → statement M
 reverse-bytes-spec =
     tie.close
     (tie.spec
-    extract-requires
-    extract-requires-2
-    with-byte-above-requires
-    extract-requires-3
-    with-byte-above-requires-2
-    extract-requires-4
-    with-byte-above-requires-3
-    extract-requires-5
-    with-byte-above-requires-4
-    extract-requires-6
-    with-byte-above-requires-5
-    extract-requires-7
-    with-byte-above-requires-6
-    extract-requires-8
-    with-byte-above-requires-7
+    (λ c κs. search needs)
+    (λ c κs. search needs)
+    (λ c κs. search needs)
+    (λ c κs. search needs)
+    (λ c κs. search needs)
+    (λ c κs. search needs)
+    (λ c κs. search needs)
+    (λ c κs. search needs)
+    (λ c κs. search needs)
+    (λ c κs. search needs)
+    (λ c κs. search needs)
+    (λ c κs. search needs)
+    (λ c κs. search needs)
+    (λ c κs. search needs)
+    (λ c κs. search needs)
     returns)

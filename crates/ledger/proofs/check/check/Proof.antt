@@ -10,20 +10,11 @@ use Rattle.ledger.proofs.check.check.Tie as tie
 returns : tie.Need-returns
 returns c = other-length (c .before .before .args .b .now) (c .if1 .taken)
 
-header-ok-requires : tie.Need-header-ok-requires
-header-ok-requires c κs = search needs
-
 returns-2 : tie.Need-returns-2
 returns-2 c = header-malformed (c .before .before .before .before .args .b .now) (λ i. omega (arith, c .before .before .before .shared-slice-known .given i)) (c .before .before .if1 .left) (sym (c .before .header-ok .ensures) ∙ not-yes _ (c .if2 .taken))
 
-contracts-ok-requires : tie.Need-contracts-ok-requires
-contracts-ok-requires c κs = search needs
-
 returns-3 : tie.Need-returns-3
 returns-3 c = contracts-malformed (c .before .before .before .before .before .before .args .b .now) (λ i. omega (arith, c .before .before .before .before .before .shared-slice-known .given i)) (c .before .before .before .before .if1 .left) (sym (c .before .before .before .header-ok .ensures) ∙ not-no _ (c .before .before .if2 .left)) (sym (c .before .contracts-ok .ensures) ∙ not-yes _ (c .if3 .taken))
-
-check-rows-requires : tie.Need-check-rows-requires
-check-rows-requires c κs = search needs
 
 returns-4 : tie.Need-returns-4
 returns-4 c = c .check-rows .ensures ∙ rows-checked (c .before .before .before .before .before .before .before .args .b .now) (λ i. omega (arith, c .before .before .before .before .before .before .shared-slice-known .given i)) (c .before .before .before .before .before .if1 .left) (sym (c .before .before .before .before .header-ok .ensures) ∙ not-no _ (c .before .before .before .if2 .left)) (sym (c .before .before .contracts-ok .ensures) ∙ not-no _ (c .before .if3 .left))
@@ -33,9 +24,9 @@ check-spec =
     tie.close
     (tie.spec
     returns
-    header-ok-requires
+    (λ c κs. search needs)
     returns-2
-    contracts-ok-requires
+    (λ c κs. search needs)
     returns-3
-    check-rows-requires
+    (λ c κs. search needs)
     returns-4)

@@ -46,32 +46,8 @@ row-low c =
 taken-is : (c : tie.Else1) → eqb (getD (rowSlotAt (c .before .before .before .before .args .b .now) (c .before .before .before .before .args .i)) 0 0) 0 ≡ false
 taken-is c = not-yes _ (sym (held-is (c .before)) ∙ not-no _ (c .if1 .left))
 
-mul-at : tie.Need-mul-at
-mul-at c = search needs
-
-add-at : tie.Need-add-at
-add-at c = search needs
-
-add-slot : tie.Need-add-slot
-add-slot c = search needs
-
-sub-slot : tie.Need-sub-slot
-sub-slot c = search needs
-
-part-slot-start : tie.Need-part-slot-start
-part-slot-start c = search needs
-
-part-slot-end : tie.Need-part-slot-end
-part-slot-end c = search needs
-
-is-held-requires : tie.Need-is-held-requires
-is-held-requires c κs = search needs
-
 returns : tie.Need-returns
 returns c = check-free _ _ _ (not-no _ (sym (held-is (c .before)) ∙ not-yes _ (c .if1 .taken)))
-
-unpack-row-requires : tie.Need-unpack-row-requires
-unpack-row-requires c κs = search needs
 
 row-ok-requires : tie.Need-row-ok-requires
 row-ok-requires c κs = (c .before .before .before .before .before .pre .0, row-low c .contract)
@@ -104,15 +80,15 @@ pub check-row-spec : {M : Type 1} → statement M
 check-row-spec =
     tie.close
     (tie.spec
-    mul-at
-    add-at
-    add-slot
-    sub-slot
-    part-slot-start
-    part-slot-end
-    is-held-requires
+    (λ c. search needs)
+    (λ c. search needs)
+    (λ c. search needs)
+    (λ c. search needs)
+    (λ c. search needs)
+    (λ c. search needs)
+    (λ c κs. search needs)
     returns
-    unpack-row-requires
+    (λ c κs. search needs)
     row-ok-requires
     returns-2
     mul-if3

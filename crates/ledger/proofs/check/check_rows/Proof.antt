@@ -25,27 +25,6 @@ abbrev μ-loop : tie.MeasureT-loop
 loop-holds : tie.Need-loop-holds Inv-loop μ-loop
 loop-holds c = (omega arith, (omega arith, all-to-find (c .before .args .b .now)))
 
-check-row-requires : tie.Need-check-row-requires Inv-loop μ-loop
-check-row-requires c κs = search needs
-
-enum-told : tie.Need-enum-told Inv-loop μ-loop
-enum-told c = search needs
-
-mul-at : tie.Need-mul-at Inv-loop μ-loop
-mul-at c = search needs
-
-add-at : tie.Need-add-at Inv-loop μ-loop
-add-at c = search needs
-
-sub-is-zero : tie.Need-sub-is-zero Inv-loop μ-loop
-sub-is-zero c = search needs
-
-is-zero-requires : tie.Need-is-zero-requires Inv-loop μ-loop
-is-zero-requires c κs = search needs
-
-cast-t12 : tie.Need-cast-t12 Inv-loop μ-loop
-cast-t12 c = search needs
-
 returns : tie.Need-returns Inv-loop μ-loop
 returns c =
     let at-loop = c .before .before .before .before .before .before in
@@ -60,18 +39,12 @@ returns-2 c =
     let bytes : AreBytes (start .args .b .now) = λ i. omega (arith, at-loop .before .shared-slice-known .given i) in
     rows-trailing (start .args .b .now) (at-loop .loop .i) (at-loop .loop .least) (at-loop .loop .due) (at-loop .loop .inv .1 .1) bytes (start .pre) (c .before .before .before .before .before .loop-test .taken) (sym (c .before .before .enum-told .given .1) ∙ c .before .before .before .before .check-row .ensures) (sym (c .before .is-zero .ensures) ∙ c .if1 .left)
 
-enum-told-2 : tie.Need-enum-told-2 Inv-loop μ-loop
-enum-told-2 c = search needs
-
 returns-3 : tie.Need-returns-3 Inv-loop μ-loop
 returns-3 c =
     let at-loop = c .before .before .before .before in
     let start = at-loop .before .before in
     let bytes : AreBytes (start .args .b .now) = λ i. omega (arith, at-loop .before .shared-slice-known .given i) in
     row-malformed (start .args .b .now) (at-loop .loop .i) (at-loop .loop .least) (at-loop .loop .due) (at-loop .loop .inv .1 .1) bytes (start .pre) (c .before .before .before .loop-test .taken) (sym (c .enum-told2 .given .1) ∙ c .before .before .check-row .ensures)
-
-enum-known-found : tie.Need-enum-known-found Inv-loop μ-loop
-enum-known-found c = search needs
 
 add-due : tie.Need-add-due Inv-loop μ-loop
 add-due c =
@@ -82,12 +55,6 @@ add-due c =
     let most : at-loop .loop .i ≤ 1024 = at-loop .loop .inv .0 in
     let sum : at-loop .loop .due ≤ at-loop .loop .i * 2 ^ 50 = at-loop .loop .inv .1 .0 in
     record { fits = omega arith }
-
-add-i : tie.Need-add-i Inv-loop μ-loop
-add-i c = search needs
-
-loop-less : tie.Need-loop-less Inv-loop μ-loop
-loop-less c = search needs
 
 loop-again : tie.Need-loop-again Inv-loop μ-loop
 loop-again c =
@@ -110,20 +77,20 @@ check-rows-spec =
     Inv-loop
     μ-loop
     loop-holds
-    check-row-requires
-    enum-told
-    mul-at
-    add-at
-    sub-is-zero
-    is-zero-requires
-    cast-t12
+    (λ c κs. search needs)
+    (λ c. search needs)
+    (λ c. search needs)
+    (λ c. search needs)
+    (λ c. search needs)
+    (λ c κs. search needs)
+    (λ c. search needs)
     returns
     returns-2
-    enum-told-2
+    (λ c. search needs)
     returns-3
-    enum-known-found
+    (λ c. search needs)
     add-due
-    add-i
-    loop-less
+    (λ c. search needs)
+    (λ c. search needs)
     loop-again
     returns-4)

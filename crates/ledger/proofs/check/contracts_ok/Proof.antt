@@ -30,32 +30,8 @@ Inv-loop b territory c₀ c =
 abbrev μ-loop : tie.MeasureT-loop
 μ-loop b territory c₀ c = contractCount - c
 
-territory-requires : tie.Need-territory-requires Inv-loop μ-loop
-territory-requires c κs = search needs
-
 loop-holds : tie.Need-loop-holds Inv-loop μ-loop
 loop-holds c = (omega arith, (c .territory .ensures, λ i h. absurd (not-suc-le-zero h)))
-
-mul-at : tie.Need-mul-at Inv-loop μ-loop
-mul-at c = search needs
-
-add-at : tie.Need-add-at Inv-loop μ-loop
-add-at c = search needs
-
-add-slot-ok : tie.Need-add-slot-ok Inv-loop μ-loop
-add-slot-ok c = search needs
-
-sub-slot-ok : tie.Need-sub-slot-ok Inv-loop μ-loop
-sub-slot-ok c = search needs
-
-part-slot-ok-start : tie.Need-part-slot-ok-start Inv-loop μ-loop
-part-slot-ok-start c = search needs
-
-part-slot-ok-end : tie.Need-part-slot-ok-end Inv-loop μ-loop
-part-slot-ok-end c = search needs
-
-slot-ok-requires : tie.Need-slot-ok-requires Inv-loop μ-loop
-slot-ok-requires c κs = search needs
 
 -- what the call finds of the slot at hand
 found : (c : tie.After-slot-ok Inv-loop μ-loop) → c .slot-ok .result ≡ tested (c .before .before .before .before .territory .result) (c .before .before .before .before .before .before .args .b .now) (c .before .before .before .loop .c)
@@ -71,12 +47,6 @@ returns c =
     let start = at-loop .before .before .before in
     sym (contracts-fail (start .args .b .now) (start .pre) _ (at-loop .loop .c) (c .before .before .before .loop-test .taken)
     (subst (λ (t : ℕ). tested t (start .args .b .now) (at-loop .loop .c) ≡ false) (at-loop .loop .inv .1 .0) (sym (found (c .before)) ∙ not-yes _ (c .if1 .taken))))
-
-add-c : tie.Need-add-c Inv-loop μ-loop
-add-c c = search needs
-
-loop-less : tie.Need-loop-less Inv-loop μ-loop
-loop-less c = search needs
 
 loop-again : tie.Need-loop-again Inv-loop μ-loop
 loop-again c =
@@ -96,17 +66,17 @@ contracts-ok-spec =
     (tie.spec
     Inv-loop
     μ-loop
-    territory-requires
+    (λ c κs. search needs)
     loop-holds
-    mul-at
-    add-at
-    add-slot-ok
-    sub-slot-ok
-    part-slot-ok-start
-    part-slot-ok-end
-    slot-ok-requires
+    (λ c. search needs)
+    (λ c. search needs)
+    (λ c. search needs)
+    (λ c. search needs)
+    (λ c. search needs)
+    (λ c. search needs)
+    (λ c κs. search needs)
     returns
-    add-c
-    loop-less
+    (λ c. search needs)
+    (λ c. search needs)
     loop-again
     returns-2)

@@ -22,15 +22,9 @@ many c = lt-leb _ _ (rw (c .before .claims .ensures) at (c .if1 .taken))
 few : (c : tie.Else1) → leb (made (c .before)) 1000 ≡ true
 few c = le-leb _ _ (rw (c .before .claims .ensures) at (c .if1 .left))
 
-claims-requires : tie.Need-claims-requires
-claims-requires c κs = search needs
-
 returns : tie.Need-returns
 unfolding headerOk
 returns c = simp (many c)
-
-pence-requires : tie.Need-pence-requires
-pence-requires c κs = search needs
 
 returns-2 : tie.Need-returns-2
 unfolding headerOk
@@ -41,4 +35,4 @@ unfolding headerOk
 returns-3 c = simp (few (c .before), ne-eqb _ _ (rw (c .before .before .claims .ensures) at (c .if2 .left)))
 
 pub header-ok-spec : {M : Type 1} → statement M
-header-ok-spec = tie.close (tie.spec claims-requires returns pence-requires returns-2 returns-3)
+header-ok-spec = tie.close (tie.spec (λ c κs. search needs) returns (λ c κs. search needs) returns-2 returns-3)

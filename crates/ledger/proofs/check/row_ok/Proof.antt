@@ -15,21 +15,12 @@ use borrow.Author.Needs.{needs}
 use Rattle.ledger.proofs.check.row_ok.Statement.{statement}
 use Rattle.ledger.proofs.check.row_ok.Tie as tie
 
-cast-c : tie.Need-cast-c
-cast-c c = search needs
-
-is-open-requires : tie.Need-is-open-requires
-is-open-requires c κs = search needs
-
 returns : tie.Need-returns
 unfolding rowOk
 returns c = simp (lt-ltb _ _ (c .before .before .before .before .before .pre .1), sym (c .before .is-open .ensures) ∙ not-yes _ (c .if1 .taken))
 
 contract-at-requires : tie.Need-contract-at-requires
 contract-at-requires c κs = (c .before .before .before .before .before .pre .0, (c .before .before .before .before .before .pre .1, sym (c .before .is-open .ensures) ∙ not-no _ (c .if1 .left)))
-
-bill-ok-requires : tie.Need-bill-ok-requires
-bill-ok-requires c κs = search needs
 
 returns-2 : tie.Need-returns-2
 unfolding rowOk
@@ -72,11 +63,11 @@ pub row-ok-spec : {M : Type 1} → statement M
 row-ok-spec =
     tie.close
     (tie.spec
-    cast-c
-    is-open-requires
+    (λ c. search needs)
+    (λ c κs. search needs)
     returns
     contract-at-requires
-    bill-ok-requires
+    (λ c κs. search needs)
     returns-2
     amount-requires
     returns-3

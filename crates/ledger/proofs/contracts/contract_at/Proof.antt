@@ -11,27 +11,6 @@ use borrow.Author.Needs.{needs}
 use Rattle.ledger.proofs.contracts.contract_at.Statement.{statement}
 use Rattle.ledger.proofs.contracts.contract_at.Tie as tie
 
-mul-at : tie.Need-mul-at
-mul-at c = search needs
-
-add-at : tie.Need-add-at
-add-at c = search needs
-
-add-unpack-contract : tie.Need-add-unpack-contract
-add-unpack-contract c = search needs
-
-sub-unpack-contract : tie.Need-sub-unpack-contract
-sub-unpack-contract c = search needs
-
-part-unpack-contract-start : tie.Need-part-unpack-contract-start
-part-unpack-contract-start c = search needs
-
-part-unpack-contract-end : tie.Need-part-unpack-contract-end
-part-unpack-contract-end c = search needs
-
-unpack-contract-requires : tie.Need-unpack-contract-requires
-unpack-contract-requires c κs = search needs
-
 returns : tie.Need-returns
 returns c =
     let start = c .before .before .before in
@@ -45,11 +24,11 @@ pub contract-at-spec : {M : Type 1} → statement M
 contract-at-spec =
     tie.close
     (tie.spec
-    mul-at
-    add-at
-    add-unpack-contract
-    sub-unpack-contract
-    part-unpack-contract-start
-    part-unpack-contract-end
-    unpack-contract-requires
+    (λ c. search needs)
+    (λ c. search needs)
+    (λ c. search needs)
+    (λ c. search needs)
+    (λ c. search needs)
+    (λ c. search needs)
+    (λ c κs. search needs)
     returns)

@@ -11,27 +11,6 @@ use borrow.Author.Needs.{needs}
 use Rattle.ledger.proofs.contracts.is_open.Statement.{statement}
 use Rattle.ledger.proofs.contracts.is_open.Tie as tie
 
-mul-at : tie.Need-mul-at
-mul-at c = search needs
-
-add-at : tie.Need-add-at
-add-at c = search needs
-
-add-is-open : tie.Need-add-is-open
-add-is-open c = search needs
-
-sub-is-open : tie.Need-sub-is-open
-sub-is-open c = search needs
-
-part-is-open-start : tie.Need-part-is-open-start
-part-is-open-start c = search needs
-
-part-is-open-end : tie.Need-part-is-open-end
-part-is-open-end c = search needs
-
-is-open-requires : tie.Need-is-open-requires
-is-open-requires c κs = search needs
-
 returns : tie.Need-returns
 returns c =
     let start = c .before .before .before in
@@ -45,11 +24,11 @@ pub is-open-spec : {M : Type 1} → statement M
 is-open-spec =
     tie.close
     (tie.spec
-    mul-at
-    add-at
-    add-is-open
-    sub-is-open
-    part-is-open-start
-    part-is-open-end
-    is-open-requires
+    (λ c. search needs)
+    (λ c. search needs)
+    (λ c. search needs)
+    (λ c. search needs)
+    (λ c. search needs)
+    (λ c. search needs)
+    (λ c κs. search needs)
     returns)

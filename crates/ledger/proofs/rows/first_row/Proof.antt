@@ -35,15 +35,6 @@ row-at-requires c κs =
     let pre = start .pre in
     (formed-length (start .args .b .now) (pre .formed), omega (arith, pre .count, rows-most (start .args .b .now) (pre .formed)))
 
-passes-requires : tie.Need-passes-requires Inv-loop μ-loop
-passes-requires c κs = search needs
-
-add-i : tie.Need-add-i Inv-loop μ-loop
-add-i c = search needs
-
-loop-less : tie.Need-loop-less Inv-loop μ-loop
-loop-less c = search needs
-
 loop-again : tie.Need-loop-again Inv-loop μ-loop
 loop-again c =
     let after = c .before in
@@ -81,9 +72,9 @@ first-row-spec =
     μ-loop
     loop-holds
     row-at-requires
-    passes-requires
-    add-i
-    loop-less
+    (λ c κs. search needs)
+    (λ c. search needs)
+    (λ c. search needs)
     loop-again
     returns
     returns-2)

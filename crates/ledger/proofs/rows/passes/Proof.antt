@@ -5,33 +5,6 @@ use borrow.Author.Needs.{needs}
 use Rattle.ledger.proofs.rows.passes.Statement.{statement}
 use Rattle.ledger.proofs.rows.passes.Tie as tie
 
-enum-known-test : tie.Need-enum-known-test
-enum-known-test c = search needs
-
-named-requires : tie.Need-named-requires
-named-requires c κs = search needs
-
-enum-known-test-2 : tie.Need-enum-known-test-2
-enum-known-test-2 c = search needs
-
-after-requires : tie.Need-after-requires
-after-requires c κs = search needs
-
-enum-known-test-3 : tie.Need-enum-known-test-3
-enum-known-test-3 c = search needs
-
-sharing-requires : tie.Need-sharing-requires
-sharing-requires c κs = search needs
-
-enum-known-test-4 : tie.Need-enum-known-test-4
-enum-known-test-4 c = search needs
-
-sharing-requires-2 : tie.Need-sharing-requires-2
-sharing-requires-2 c κs = search needs
-
-named-requires-2 : tie.Need-named-requires-2
-named-requires-2 c κs = search needs
-
 returns : tie.Need-returns
 returns c = rw (c .before .before .before .before .test4 .given .1, sym (c .before .before .sharing2 .ensures) ∙ c .before .if1 .taken) (ap not (c .named2 .ensures))
 
@@ -51,15 +24,15 @@ pub passes-spec : {M : Type 1} → statement M
 passes-spec =
     tie.close
     (tie.spec
-    enum-known-test
-    named-requires
-    enum-known-test-2
-    after-requires
-    enum-known-test-3
-    sharing-requires
-    enum-known-test-4
-    sharing-requires-2
-    named-requires-2
+    (λ c. search needs)
+    (λ c κs. search needs)
+    (λ c. search needs)
+    (λ c κs. search needs)
+    (λ c. search needs)
+    (λ c κs. search needs)
+    (λ c. search needs)
+    (λ c κs. search needs)
+    (λ c κs. search needs)
     returns
     returns-2
     returns-3

@@ -12,27 +12,6 @@ use borrow.Author.Needs.{needs}
 use Rattle.ledger.proofs.rows.row_at.Statement.{statement}
 use Rattle.ledger.proofs.rows.row_at.Tie as tie
 
-mul-at : tie.Need-mul-at
-mul-at c = search needs
-
-add-at : tie.Need-add-at
-add-at c = search needs
-
-add-unpack-row : tie.Need-add-unpack-row
-add-unpack-row c = search needs
-
-sub-unpack-row : tie.Need-sub-unpack-row
-sub-unpack-row c = search needs
-
-part-unpack-row-start : tie.Need-part-unpack-row-start
-part-unpack-row-start c = search needs
-
-part-unpack-row-end : tie.Need-part-unpack-row-end
-part-unpack-row-end c = search needs
-
-unpack-row-requires : tie.Need-unpack-row-requires
-unpack-row-requires c κs = search needs
-
 returns : tie.Need-returns
 unfolding rowAt recordIn rowSlotAt
 returns c =
@@ -45,11 +24,11 @@ pub row-at-spec : {M : Type 1} → statement M
 row-at-spec =
     tie.close
     (tie.spec
-    mul-at
-    add-at
-    add-unpack-row
-    sub-unpack-row
-    part-unpack-row-start
-    part-unpack-row-end
-    unpack-row-requires
+    (λ c. search needs)
+    (λ c. search needs)
+    (λ c. search needs)
+    (λ c. search needs)
+    (λ c. search needs)
+    (λ c. search needs)
+    (λ c κs. search needs)
     returns)

@@ -2,17 +2,6 @@
 use borrow.Author.Needs.{needs}
 use Rattle.session.proofs.answers.day_line.Statement.{statement}
 use Rattle.session.proofs.answers.day_line.Tie as tie
-use Rattle.session.proofs.answers.day_line.Reads as reads
-use Rattle.session.proofs.answers.day_line.Lts as lts
-
-enum-known-answer : tie.Need-enum-known-answer
-enum-known-answer c = search needs
-
-cast-t5 : tie.Need-cast-t5
-cast-t5 c = search needs
-
-enum-known-answer-2 : tie.Need-enum-known-answer-2
-enum-known-answer-2 c = search needs
 
 returns : tie.Need-returns
 returns c = rw (c .before .answer .given .1)
@@ -22,4 +11,4 @@ returns-2 c = rw (c .before .answer2 .given .1)
 
 pub day-line-spec : {M : Type 1} → statement M
 day-line-spec =
-    tie.close (tie.spec enum-known-answer cast-t5 enum-known-answer-2 returns returns-2)
+    tie.close (tie.spec (λ c. search needs) (λ c. search needs) (λ c. search needs) returns returns-2)

@@ -9,41 +9,11 @@ use Rattle.session.proofs.UnchangedLedger.{report-changes-nothing, tota
 use Rattle.session.proofs.replies.reply_on_claims.Statement.{statement}
 use Rattle.session.proofs.replies.reply_on_claims.Tie as tie
 
-enum-told : tie.Need-enum-told
-enum-told c = search needs
-
-claim-requires : tie.Need-claim-requires
-claim-requires c κs = search needs
-
-line-of-requires : tie.Need-line-of-requires
-line-of-requires c κs = search needs
-
-enum-known-command : tie.Need-enum-known-command
-enum-known-command c = search needs
-
-report-requires : tie.Need-report-requires
-report-requires c κs = search needs
-
-line-of-requires-2 : tie.Need-line-of-requires-2
-line-of-requires-2 c κs = search needs
-
-enum-told-2 : tie.Need-enum-told-2
-enum-told-2 c = search needs
-
-total-requires : tie.Need-total-requires
-total-requires c κs = search needs
-
-line-of-requires-3 : tie.Need-line-of-requires-3
-line-of-requires-3 c κs = search needs
-
 reply-without-ledger-requires : tie.Need-reply-without-ledger-requires
 reply-without-ledger-requires c κs =
     let m = c .before in
     let s = m .before .before .before in
     (s .pre .0, past-group 2 (0 ∷ 1 ∷ 2 ∷ 3 ∷ 4 ∷ 5 ∷ 9 ∷ 10 ∷ 11 ∷ 12 ∷ []) refl (s .args .command) (s .pre .1) (m .match .keys4))
-
-same-length : tie.Need-same-length
-same-length c = search needs
 
 returns : tie.Need-returns
 unfolding outcome
@@ -52,18 +22,12 @@ returns c =
     let k = d .before .before in
     rw (k .enum-told .given .1) (line-said (c .line-of .ensures) (d .claim .ensures .0), ledger-left (d .claim .ensures .1))
 
-same-length-2 : tie.Need-same-length-2
-same-length-2 c = search needs
-
 returns-2 : tie.Need-returns-2
 unfolding outcome
 returns-2 c =
     let d = c .before in
     let k = d .before .before .before in
     rw (k .command .given .1) (line-said (c .line-of2 .ensures) (d .report .ensures), ledger-left (sym (report-changes-nothing _ _)))
-
-same-length-3 : tie.Need-same-length-3
-same-length-3 c = search needs
 
 returns-3 : tie.Need-returns-3
 unfolding outcome
@@ -72,9 +36,6 @@ returns-3 c =
     let k = d .before .before in
     rw (k .enum-told2 .given .1) (line-said (c .line-of3 .ensures) (d .total .ensures), ledger-left (sym (total-changes-nothing _)))
 
-same-length-4 : tie.Need-same-length-4
-same-length-4 c = search needs
-
 returns-4 : tie.Need-returns-4
 returns-4 c = c .before .before .reply-without-ledger .ensures _
 
@@ -82,21 +43,21 @@ pub reply-on-claims-spec : {M : Type 1} → statement M
 reply-on-claims-spec =
     tie.close
     (tie.spec
-    enum-told
-    claim-requires
-    line-of-requires
-    enum-known-command
-    report-requires
-    line-of-requires-2
-    enum-told-2
-    total-requires
-    line-of-requires-3
+    (λ c. search needs)
+    (λ c κs. search needs)
+    (λ c κs. search needs)
+    (λ c. search needs)
+    (λ c κs. search needs)
+    (λ c κs. search needs)
+    (λ c. search needs)
+    (λ c κs. search needs)
+    (λ c κs. search needs)
     reply-without-ledger-requires
-    same-length
+    (λ c. search needs)
     returns
-    same-length-2
+    (λ c. search needs)
     returns-2
-    same-length-3
+    (λ c. search needs)
     returns-3
-    same-length-4
+    (λ c. search needs)
     returns-4)

@@ -8,30 +8,6 @@ use Rattle.session.proofs.LedgerReplies.{book-left}
 use Rattle.session.proofs.replies.reply_without_ledger.Statement.{statement}
 use Rattle.session.proofs.replies.reply_without_ledger.Tie as tie
 
-enum-known-command : tie.Need-enum-known-command
-enum-known-command c = search needs
-
-day-requires : tie.Need-day-requires
-day-requires c κs = search needs
-
-day-line-requires : tie.Need-day-line-requires
-day-line-requires c κs = search needs
-
-enum-known-command-2 : tie.Need-enum-known-command-2
-enum-known-command-2 c = search needs
-
-date-requires : tie.Need-date-requires
-date-requires c κs = search needs
-
-date-line-requires : tie.Need-date-line-requires
-date-line-requires c κs = search needs
-
-enum-known-command-3 : tie.Need-enum-known-command-3
-enum-known-command-3 c = search needs
-
-set-price-requires : tie.Need-set-price-requires
-set-price-requires c κs = search needs
-
 returns : tie.Need-returns
 unfolding outcome
 returns c = λ ledger. rw (c .before .before .before .command .given .1, ← c .before .day .ensures) (c .day-line .ensures, refl)
@@ -39,9 +15,6 @@ returns c = λ ledger. rw (c .before .before .before .command .given .1, ← c .
 returns-2 : tie.Need-returns-2
 unfolding outcome
 returns-2 c = λ ledger. rw (c .before .before .before .command2 .given .1, ← c .before .date .ensures) (c .date-line .ensures, refl)
-
-same-length : tie.Need-same-length
-same-length c = search needs
 
 returns-3 : tie.Need-returns-3
 unfolding outcome
@@ -57,16 +30,16 @@ pub reply-without-ledger-spec : {M : Type 1} → statement M
 reply-without-ledger-spec =
     tie.close
     (tie.spec
-    enum-known-command
-    day-requires
-    day-line-requires
-    enum-known-command-2
-    date-requires
-    date-line-requires
-    enum-known-command-3
-    set-price-requires
+    (λ c. search needs)
+    (λ c κs. search needs)
+    (λ c κs. search needs)
+    (λ c. search needs)
+    (λ c κs. search needs)
+    (λ c κs. search needs)
+    (λ c. search needs)
+    (λ c κs. search needs)
     returns
     returns-2
-    same-length
+    (λ c. search needs)
     returns-3
     returns-4)

@@ -14,19 +14,10 @@ returns-2 : tie.Need-returns-2
 unfolding priceLine bookWith
 returns-2 c = simp (le-ltb _ _ (c .before .if1 .left), lt-ltb _ _ (c .if2 .taken)) (refl, refl)
 
-mul-book : tie.Need-mul-book
-mul-book c = search needs
-
-slice-write-book : tie.Need-slice-write-book
-slice-write-book c = search needs
-
-same-length : tie.Need-same-length
-same-length c = search needs
-
 returns-3 : tie.Need-returns-3
 unfolding priceLine bookWith
 returns-3 c = simp (le-ltb _ _ (c .before .if1 .left), le-ltb _ _ (c .if2 .left)) (refl, refl)
 
 pub set-price-spec : {M : Type 1} → statement M
 set-price-spec =
-    tie.close (tie.spec returns returns-2 mul-book slice-write-book same-length returns-3)
+    tie.close (tie.spec returns returns-2 (λ c. search needs) (λ c. search needs) (λ c. search needs) returns-3)

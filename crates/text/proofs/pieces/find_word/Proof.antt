@@ -30,9 +30,6 @@ part-same-text-start c = omega (arith, c .find .ensures .first)
 part-same-text-end : tie.Need-part-same-text-end Inv-loop μ-loop
 part-same-text-end c = c .find .ensures .inside
 
-same-text-requires : tie.Need-same-text-requires Inv-loop μ-loop
-same-text-requires c κs = search needs
-
 returns : tie.Need-returns Inv-loop μ-loop
 returns c =
     let f = c .before .before .before in
@@ -74,7 +71,7 @@ find-word-spec =
     sub-same-text
     part-same-text-start
     part-same-text-end
-    same-text-requires
+    (λ c κs. search needs)
     returns
     returns-2
     add-at

@@ -5,24 +5,6 @@ use Rattle.text.proofs.Commands.{at-place}
 use Rattle.text.proofs.reading.command_at.Statement.{statement}
 use Rattle.text.proofs.reading.command_at.Tie as tie
 
-array-read-a : tie.Need-array-read-a
-array-read-a c = search needs
-
-array-read-b : tie.Need-array-read-b
-array-read-b c = search needs
-
-array-read-c : tie.Need-array-read-c
-array-read-c c = search needs
-
-array-read-d : tie.Need-array-read-d
-array-read-d c = search needs
-
-array-read-e : tie.Need-array-read-e
-array-read-e c = search needs
-
-array-read-f : tie.Need-array-read-f
-array-read-f c = search needs
-
 later-command-at-requires : tie.Need-later-command-at-requires
 later-command-at-requires c κs = omega (arith, c .match .rest .0 .0 .0 .0 .0 .1, c .match .rest .0 .0 .0 .0 .1, c .match .rest .0 .0 .0 .1, c .match .rest .0 .0 .1, c .match .rest .0 .1, c .match .rest .1)
 
@@ -51,12 +33,12 @@ pub command-at-spec : {M : Type 1} → statement M
 command-at-spec =
     tie.close
     (tie.spec
-    array-read-a
-    array-read-b
-    array-read-c
-    array-read-d
-    array-read-e
-    array-read-f
+    (λ c. search needs)
+    (λ c. search needs)
+    (λ c. search needs)
+    (λ c. search needs)
+    (λ c. search needs)
+    (λ c. search needs)
     later-command-at-requires
     returns
     returns-2

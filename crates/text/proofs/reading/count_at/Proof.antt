@@ -6,14 +6,8 @@ use Rattle.text.specs.ReadingSteps.{noForm}
 use Rattle.text.proofs.reading.count_at.Statement.{statement}
 use Rattle.text.proofs.reading.count_at.Tie as tie
 
-mul-result : tie.Need-mul-result
-mul-result c = search needs
-
-array-read-result : tie.Need-array-read-result
-array-read-result c = search needs
-
 returns : tie.Need-returns
 returns c = List·getD-map (λ (f : Form). f .count) forms (c .args .place) noForm
 
 pub count-at-spec : {M : Type 1} → statement M
-count-at-spec = tie.close (tie.spec mul-result array-read-result returns)
+count-at-spec = tie.close (tie.spec (λ c. search needs) (λ c. search needs) returns)

@@ -18,9 +18,6 @@ abbrev μ-loop : tie.MeasureT-loop
 loop-holds : tie.Need-loop-holds Inv-loop μ-loop
 loop-holds c = record { within = search needs; small = search needs; rest = refl }
 
-shared-slice-read-digit : tie.Need-shared-slice-read-digit Inv-loop μ-loop
-shared-slice-read-digit c = search needs
-
 returns : tie.Need-returns Inv-loop μ-loop
 returns c =
     let t = c .before .before in
@@ -36,19 +33,10 @@ mul-value c =
     let t = c .before .before .before in
     omega (arith, nine-digits _ _ _ (t .before .loop .inv) (t .before .before .pre) (t .loop-test .taken))
 
-cast-value : tie.Need-cast-value Inv-loop μ-loop
-cast-value c = search needs
-
 add-value : tie.Need-add-value Inv-loop μ-loop
 add-value c =
     let t = c .before .before .before in
     omega (arith, nine-digits _ _ _ (t .before .loop .inv) (t .before .before .pre) (t .loop-test .taken), c .if2 .left)
-
-add-i : tie.Need-add-i Inv-loop μ-loop
-add-i c = search needs
-
-loop-less : tie.Need-loop-less Inv-loop μ-loop
-loop-less c = search needs
 
 loop-again : tie.Need-loop-again Inv-loop μ-loop
 loop-again c =
@@ -65,13 +53,13 @@ decimal-value-spec =
     Inv-loop
     μ-loop
     loop-holds
-    shared-slice-read-digit
+    (λ c. search needs)
     returns
     returns-2
     mul-value
-    cast-value
+    (λ c. search needs)
     add-value
-    add-i
-    loop-less
+    (λ c. search needs)
+    (λ c. search needs)
     loop-again
     returns-3)

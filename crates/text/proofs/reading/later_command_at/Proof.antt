@@ -10,15 +10,6 @@ use Rattle.text.proofs.Commands.{at-place}
 use Rattle.text.proofs.reading.later_command_at.Statement.{statement}
 use Rattle.text.proofs.reading.later_command_at.Tie as tie
 
-array-read-a : tie.Need-array-read-a
-array-read-a c = search needs
-
-array-read-b : tie.Need-array-read-b
-array-read-b c = search needs
-
-array-read-c : tie.Need-array-read-c
-array-read-c c = search needs
-
 returns : tie.Need-returns
 returns c = at-place _ 6 _ (c .match .keys1)
 
@@ -47,9 +38,9 @@ pub later-command-at-spec : {M : Type 1} → statement M
 later-command-at-spec =
     tie.close
     (tie.spec
-    array-read-a
-    array-read-b
-    array-read-c
+    (λ c. search needs)
+    (λ c. search needs)
+    (λ c. search needs)
     returns
     returns-2
     returns-3

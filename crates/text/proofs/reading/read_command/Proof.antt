@@ -19,23 +19,8 @@ place : (c : tie.After-place) → Found.At (c .place .given .0 .0) ≡ placeFrom
 unfolding nameWords
 place c = sym (c .place .given .1) ∙ c .before .before .find-word .ensures
 
-find-requires : tie.Need-find-requires
-find-requires c κs = search needs
-
-slice-aggregate-find-word : tie.Need-slice-aggregate-find-word
-slice-aggregate-find-word c = search needs
-
 slice-aggregate-find-word-2 : tie.Need-slice-aggregate-find-word-2
 slice-aggregate-find-word-2 c = sym (length-take-le _ _ (c .before .before .find .ensures .inside))
-
-find-word-requires : tie.Need-find-word-requires
-find-word-requires c κs = search needs
-
-enum-known-place : tie.Need-enum-known-place
-enum-known-place c = search needs
-
-enum-told : tie.Need-enum-told
-enum-told c = search needs
 
 returns : tie.Need-returns
 unfolding nameWords
@@ -59,9 +44,6 @@ returns-2 c =
     let p = n .before .before in
     not-its-numbers _ _ (p .before .before .before .before .before .find .ensures) _ (place p) _ (r .read-numbers .result) (r .read-numbers .last .1 .1 .1 .0) (n .count-at .ensures) (r .read-numbers .ensures) (not-true _ (c .if1 .taken))
 
-command-at-requires : tie.Need-command-at-requires
-command-at-requires c κs = search needs
-
 returns-3 : tie.Need-returns-3
 returns-3 c =
     let e = c .before in
@@ -75,15 +57,15 @@ pub read-command-spec : {M : Type 1} → statement M
 read-command-spec =
     tie.close
     (tie.spec
-    find-requires
-    slice-aggregate-find-word
+    (λ c κs. search needs)
+    (λ c. search needs)
     slice-aggregate-find-word-2
-    find-word-requires
-    enum-known-place
-    enum-told
+    (λ c κs. search needs)
+    (λ c. search needs)
+    (λ c. search needs)
     returns
     count-at-requires
     read-numbers-requires
     returns-2
-    command-at-requires
+    (λ c κs. search needs)
     returns-3)

@@ -48,23 +48,11 @@ returns-2 : tie.Need-returns-2
 unfolding numberOf
 returns-2 c = simp (filled (c .before), long c)
 
-shared-slice-read-if4 : tie.Need-shared-slice-read-if4
-shared-slice-read-if4 c = search needs
-
 returns-3 : tie.Need-returns-3
 unfolding numberOf
 returns-3 c =
     let e = c .before .before .before in
     simp (filled (e .before), short e, lt-ltb _ _ (c .before .before .if3 .taken), zero-first c)
-
-decimal-value-requires : tie.Need-decimal-value-requires
-decimal-value-requires c κs = search needs
-
-enum-known-value : tie.Need-enum-known-value
-enum-known-value c = search needs
-
-enum-told : tie.Need-enum-told
-enum-told c = search needs
 
 returns-4 : tie.Need-returns-4
 returns-4 c =
@@ -75,9 +63,6 @@ returns-5 : tie.Need-returns-5
 returns-5 c =
     let v = c .before .before .before .before in
     by-value (v .before) (rw (← v .decimal-value .ensures, c .before .before .value .given .1, large c))
-
-cast-t9 : tie.Need-cast-t9
-cast-t9 c = search needs
 
 returns-6 : tie.Need-returns-6
 returns-6 c =
@@ -90,12 +75,12 @@ read-number-spec =
     (tie.spec
     returns
     returns-2
-    shared-slice-read-if4
+    (λ c. search needs)
     returns-3
-    decimal-value-requires
-    enum-known-value
-    enum-told
+    (λ c κs. search needs)
+    (λ c. search needs)
+    (λ c. search needs)
     returns-4
     returns-5
-    cast-t9
+    (λ c. search needs)
     returns-6)

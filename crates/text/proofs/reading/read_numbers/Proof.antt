@@ -43,33 +43,12 @@ part-read-number-start c = omega (arith, c .find .ensures .first)
 part-read-number-end : tie.Need-part-read-number-end Inv-loop μ-loop
 part-read-number-end c = c .find .ensures .inside
 
-read-number-requires : tie.Need-read-number-requires Inv-loop μ-loop
-read-number-requires c κs = search needs
-
-enum-known-value : tie.Need-enum-known-value Inv-loop μ-loop
-enum-known-value c = search needs
-
-enum-told : tie.Need-enum-told Inv-loop μ-loop
-enum-told c = search needs
-
 returns-2 : tie.Need-returns-2 Inv-loop μ-loop
 returns-2 c =
     let w = c .before .before in
     let f = w .before .before in
     let l = f .before .before .before in
     no-number _ _ _ _ _ _ (l .loop .inv) (l .before .before .pre .1 .0) (onward (f .before)) _ (f .find .ensures) (sym (c .enum-told .given .1) ∙ w .read-number .ensures)
-
-mul-numbers : tie.Need-mul-numbers Inv-loop μ-loop
-mul-numbers c = search needs
-
-element-write-numbers : tie.Need-element-write-numbers Inv-loop μ-loop
-element-write-numbers c = search needs
-
-add-k : tie.Need-add-k Inv-loop μ-loop
-add-k c = search needs
-
-loop-less : tie.Need-loop-less Inv-loop μ-loop
-loop-less c = search needs
 
 loop-again : tie.Need-loop-again Inv-loop μ-loop
 loop-again c =
@@ -102,14 +81,14 @@ read-numbers-spec =
     sub-read-number
     part-read-number-start
     part-read-number-end
-    read-number-requires
-    enum-known-value
-    enum-told
+    (λ c κs. search needs)
+    (λ c. search needs)
+    (λ c. search needs)
     returns-2
-    mul-numbers
-    element-write-numbers
-    add-k
-    loop-less
+    (λ c. search needs)
+    (λ c. search needs)
+    (λ c. search needs)
+    (λ c. search needs)
     loop-again
     returns-3
     returns-4)

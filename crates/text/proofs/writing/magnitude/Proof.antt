@@ -45,10 +45,7 @@ returns c =
     let h = negative-size (c .before .args .x) (c .before .fits .x) (negative c) in
     rw (back (c .before), plus-one c, negated (c .before .args .x) (negative c), toZ-pos w64 _ (low c)) (omega arith)
 
-returns-2 : tie.Need-returns-2
-returns-2 c = search needs
-
 pub magnitude-spec : {M : Type 1} → statement M
 magnitude-spec =
     tie.close
-    (tie.spec add-result sub-result cast-result add-result-2 cast-result-2 returns returns-2)
+    (tie.spec add-result sub-result cast-result add-result-2 cast-result-2 returns (λ c. search needs))

@@ -24,26 +24,11 @@ sign c = sym (c .is-negative .ensures ∙ ap isNegative (toZ-ofZ w64 _ (c .befor
 short : (c : tie.After-magnitude) → length (digits (c .magnitude .result)) ≤ 19
 short c = rw (size c) (nineteen-digits _ (c .before .before .fits .x))
 
-magnitude-requires : tie.Need-magnitude-requires
-magnitude-requires c κs = search needs
-
-is-negative-requires : tie.Need-is-negative-requires
-is-negative-requires c κs = search needs
-
-slice-aggregate-write-text : tie.Need-slice-aggregate-write-text
-slice-aggregate-write-text c = search needs
-
-write-text-requires : tie.Need-write-text-requires
-write-text-requires c κs = search needs
-
 write-digits-requires : tie.Need-write-digits-requires
 write-digits-requires c κs =
     let w = c .before .before .before in
     let m = w .before .before .before .before .before in
     omega (arith, w .write-text .ensures .reached, w .write-text .kept .0, m .before .before .pre, short m)
-
-same-length : tie.Need-same-length
-same-length c = search needs
 
 returns : tie.Need-returns
 returns c =
@@ -58,9 +43,6 @@ write-digits-requires-2 c κs =
     let m = c .before .before .before in
     omega (arith, m .before .before .pre, short m)
 
-same-length-2 : tie.Need-same-length-2
-same-length-2 c = search needs
-
 returns-2 : tie.Need-returns-2
 returns-2 c =
     let d = c .before .before in
@@ -72,13 +54,13 @@ pub write-integer-spec : {M : Type 1} → statement M
 write-integer-spec =
     tie.close
     (tie.spec
-    magnitude-requires
-    is-negative-requires
-    slice-aggregate-write-text
-    write-text-requires
+    (λ c κs. search needs)
+    (λ c κs. search needs)
+    (λ c. search needs)
+    (λ c κs. search needs)
     write-digits-requires
-    same-length
+    (λ c. search needs)
     returns
     write-digits-requires-2
-    same-length-2
+    (λ c. search needs)
     returns-2)

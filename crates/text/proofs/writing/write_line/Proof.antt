@@ -4,19 +4,10 @@ use Rattle.text.proofs.Writes.{within-room, within-then, room-after}
 use Rattle.text.proofs.writing.write_line.Statement.{statement}
 use Rattle.text.proofs.writing.write_line.Tie as tie
 
-write-words-requires : tie.Need-write-words-requires
-write-words-requires c κs = search needs
-
-slice-aggregate-write-text : tie.Need-slice-aggregate-write-text
-slice-aggregate-write-text c = search needs
-
 write-text-requires : tie.Need-write-text-requires
 write-text-requires c κs =
     let w = c .before .before .before .before in
     room-after 1 (w .write-words .ensures) (w .write-words .kept .0) (w .before .before .before .pre)
-
-same-length : tie.Need-same-length
-same-length c = search needs
 
 returns : tie.Need-returns
 returns c =
@@ -27,4 +18,4 @@ returns c =
 pub write-line-spec : {M : Type 1} → statement M
 write-line-spec =
     tie.close
-    (tie.spec write-words-requires slice-aggregate-write-text write-text-requires same-length returns)
+    (tie.spec (λ c κs. search needs) (λ c. search needs) write-text-requires (λ c. search needs) returns)

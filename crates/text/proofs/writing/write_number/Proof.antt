@@ -21,29 +21,11 @@ short c = few-digits 19 _ (omega (arith, c .known-told .given))
 value : (c : tie.After-known-told2) → toZ w64 (ofZ w64 (c .before .number2 .given .0 .0)) ≡ c .before .number2 .given .0 .0
 value c = toZ-ofZ w64 _ (record { sfits = c .known-told2 .given .0 .1 })
 
-slice-aggregate-write-text : tie.Need-slice-aggregate-write-text
-slice-aggregate-write-text c = search needs
-
-write-text-requires : tie.Need-write-text-requires
-write-text-requires c κs = search needs
-
-enum-known-number : tie.Need-enum-known-number
-enum-known-number c = search needs
-
 write-digits-requires : tie.Need-write-digits-requires
 write-digits-requires c κs =
     let k = c .before in
     let w = k .before .before .before .before .before in
     omega (arith, w .write-text .ensures .reached, w .write-text .kept .0, w .before .before .before .before .pre, short k)
-
-same-length : tie.Need-same-length
-same-length c = search needs
-
-enum-known-number-2 : tie.Need-enum-known-number-2
-enum-known-number-2 c = search needs
-
-write-integer-requires : tie.Need-write-integer-requires
-write-integer-requires c κs = search needs
 
 returns : tie.Need-returns
 returns c =
@@ -51,9 +33,6 @@ returns c =
     let k = d .before .before in
     let w = k .before .before .before .before .before in
     rw (k .before .number .given .1) (within-then (within-room 1 (w .write-text .ensures) (search needs)) (within-room 20 (d .write-digits .ensures) (short k)))
-
-same-length-2 : tie.Need-same-length-2
-same-length-2 c = search needs
 
 returns-2 : tie.Need-returns-2
 returns-2 c =
@@ -66,13 +45,13 @@ pub write-number-spec : {M : Type 1} → statement M
 write-number-spec =
     tie.close
     (tie.spec
-    slice-aggregate-write-text
-    write-text-requires
-    enum-known-number
+    (λ c. search needs)
+    (λ c κs. search needs)
+    (λ c. search needs)
     write-digits-requires
-    enum-known-number-2
-    write-integer-requires
-    same-length
+    (λ c. search needs)
+    (λ c κs. search needs)
+    (λ c. search needs)
     returns
-    same-length-2
+    (λ c. search needs)
     returns-2)

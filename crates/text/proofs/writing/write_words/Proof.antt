@@ -26,37 +26,16 @@ room-4 c = rw (c .line3 .given .1) at (c .before .before .before .pre)
 room-5 : (c : tie.After-line4) → c .before .before .before .args .at + 65 ≤ length (c .before .before .before .args .out .now)
 room-5 c = rw (c .line4 .given .1) at (c .before .before .before .pre)
 
-enum-known-line : tie.Need-enum-known-line
-enum-known-line c = search needs
-
-slice-aggregate-write-text : tie.Need-slice-aggregate-write-text
-slice-aggregate-write-text c = search needs
-
 write-text-requires : tie.Need-write-text-requires
 write-text-requires c κs = room-first _ _ 8 _ (room-1 (c .before .before .before))
-
-cast-write-digits : tie.Need-cast-write-digits
-cast-write-digits c = search needs
 
 write-digits-requires : tie.Need-write-digits-requires
 write-digits-requires c κs =
     let w = c .before .before .before in
     room-after _ (within-room 8 (w .write-text .ensures) (le-refl 8)) (w .write-text .kept .0) (room-1 (w .before .before .before .before))
 
-enum-told : tie.Need-enum-told
-enum-told c = search needs
-
-slice-aggregate-write-text-2 : tie.Need-slice-aggregate-write-text-2
-slice-aggregate-write-text-2 c = search needs
-
 write-text-requires-2 : tie.Need-write-text-requires-2
 write-text-requires-2 c κs = room-2 (c .before .before)
-
-enum-known-line-2 : tie.Need-enum-known-line-2
-enum-known-line-2 c = search needs
-
-slice-aggregate-write-text-3 : tie.Need-slice-aggregate-write-text-3
-slice-aggregate-write-text-3 c = search needs
 
 write-text-requires-3 : tie.Need-write-text-requires-3
 write-text-requires-3 c κs = room-first _ _ 2 21 (room-3 (c .before .before .before))
@@ -65,12 +44,6 @@ write-number-requires : tie.Need-write-number-requires
 write-number-requires c κs =
     let w = c .before .before .before in
     room-after 21 (within-room 2 (w .write-text3 .ensures) (le-refl 2)) (w .write-text3 .kept .0) (room-3 (w .before .before .before .before))
-
-enum-known-line-3 : tie.Need-enum-known-line-3
-enum-known-line-3 c = search needs
-
-slice-aggregate-write-text-4 : tie.Need-slice-aggregate-write-text-4
-slice-aggregate-write-text-4 c = search needs
 
 write-text-requires-4 : tie.Need-write-text-requires-4
 write-text-requires-4 c κs = room-first _ _ 2 42 (room-4 (c .before .before .before))
@@ -85,12 +58,6 @@ write-number-requires-3 c κs =
     let n = c .before .before .before in
     let w = n .before .before .before .before in
     room-after 21 (n .write-number2 .ensures) (n .write-number2 .kept .0) (room-after 42 (within-room 2 (w .write-text4 .ensures) (le-refl 2)) (w .write-text4 .kept .0) (room-4 (w .before .before .before .before)))
-
-enum-known-line-4 : tie.Need-enum-known-line-4
-enum-known-line-4 c = search needs
-
-slice-aggregate-write-text-5 : tie.Need-slice-aggregate-write-text-5
-slice-aggregate-write-text-5 c = search needs
 
 write-text-requires-5 : tie.Need-write-text-requires-5
 write-text-requires-5 c κs = room-first _ _ 2 63 (room-5 (c .before .before .before))
@@ -181,25 +148,25 @@ pub write-words-spec : {M : Type 1} → statement M
 write-words-spec =
     tie.close
     (tie.spec
-    enum-known-line
-    slice-aggregate-write-text
+    (λ c. search needs)
+    (λ c. search needs)
     write-text-requires
-    cast-write-digits
+    (λ c. search needs)
     write-digits-requires
-    enum-told
-    slice-aggregate-write-text-2
+    (λ c. search needs)
+    (λ c. search needs)
     write-text-requires-2
-    enum-known-line-2
-    slice-aggregate-write-text-3
+    (λ c. search needs)
+    (λ c. search needs)
     write-text-requires-3
     write-number-requires
-    enum-known-line-3
-    slice-aggregate-write-text-4
+    (λ c. search needs)
+    (λ c. search needs)
     write-text-requires-4
     write-number-requires-2
     write-number-requires-3
-    enum-known-line-4
-    slice-aggregate-write-text-5
+    (λ c. search needs)
+    (λ c. search needs)
     write-text-requires-5
     write-number-requires-4
     write-number-requires-5
