@@ -1,3 +1,2 @@
--- The numbers that C gives and gets.
-pub mod Requests
+-- The answers that C gets.
 pub mod Answers

@@ -5,13 +5,12 @@ mod answers;
 use answers::give;
 use answers::give_date;
 use answers::give_day;
-use bill_refusals::Request;
+use bill_refusals::request_of;
 ghost use mathlib.Core.Path.{_≡_};
 ghost use Rattle.calendar.specs.Answers.{dayAnswer, dateAnswer, dayRefusalNumber, dateRefusalNumber, dayAnswerValues, dateAnswerValues};
-ghost use Rattle.model.specs.Calls.{callOpen, callBill, callRebill, callCert, callCancel, callClaim, callReport, callTotal, refusalNumber, answerValues};
+ghost use Rattle.model.specs.Calls.{callOpen, callBill, callRebill, callCert, callCancel, callClaim, callReport, callTotal, request, refusalNumber, answerValues};
 ghost use Rattle.layout.specs.Theorems.{packedMachine};
 ghost use Rattle.contract_calls.specs.Start.{startAnswer, startBytes};
-ghost use Rattle.ebds_c.specs.Requests.{request};
 
 // start (territory).
 #[no_mangle]
@@ -63,14 +62,7 @@ pub extern "C" fn ebds_bill(
     ensures { λ r. ⌜ (r ≡ refusalNumber (packedMachine .answer (now (ledger .entry)) (callBill (request contract first last kwh supply wap (now (book .entry)))))) × (now (answer .exit) ≡ answerValues (packedMachine .answer (now (ledger .entry)) (callBill (request contract first last kwh supply wap (now (book .entry)))))) ⌝ }
     ensures { λ _. ⌜ now (ledger .exit) ≡ packedMachine .step (now (ledger .entry)) (callBill (request contract first last kwh supply wap (now (book .entry)))) ⌝ }
 {
-    let numbers = Request {
-        contract,
-        first,
-        last,
-        kwh,
-        supply,
-        wap,
-    };
+    let numbers = request_of(contract, first, last, kwh, supply, wap);
     give(bill_calls::bill(ledger, book, numbers), answer)
 }
 
@@ -90,14 +82,7 @@ pub extern "C" fn ebds_rebill(
     ensures { λ r. ⌜ (r ≡ refusalNumber (packedMachine .answer (now (ledger .entry)) (callRebill (request contract first last kwh supply wap (now (book .entry)))))) × (now (answer .exit) ≡ answerValues (packedMachine .answer (now (ledger .entry)) (callRebill (request contract first last kwh supply wap (now (book .entry)))))) ⌝ }
     ensures { λ _. ⌜ now (ledger .exit) ≡ packedMachine .step (now (ledger .entry)) (callRebill (request contract first last kwh supply wap (now (book .entry)))) ⌝ }
 {
-    let numbers = Request {
-        contract,
-        first,
-        last,
-        kwh,
-        supply,
-        wap,
-    };
+    let numbers = request_of(contract, first, last, kwh, supply, wap);
     give(bill_calls::rebill(ledger, book, numbers), answer)
 }
 

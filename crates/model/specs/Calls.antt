@@ -21,6 +21,10 @@ pub record BillRequest : Type 0 where
   pub wap : ℕ
   pub book : List ℕ
 
+-- such a request, by its numbers in the paper's order and its book
+abbrev pub request : (contract first last kwh supply wap : ℕ) → (book : List ℕ) → BillRequest
+request contract first last kwh supply wap book = record { contract = contract; first = first; last = last; kwh = kwh; supply = supply; wap = wap; book = book }
+
 -- the eight calls of a history
 pub data Call : Type 0 where
   callOpen : (contract fuel kind priceFixDay entryDay : ℕ) → Call

@@ -6,26 +6,26 @@ use lib.ListN.{replicate}
 use lib.IntN.{pos, negℤ}
 use Rattle.model.specs.declared.Answer.{Answer}
 use Rattle.model.specs.declared.Answer.the-variants.{Refused, Done, Billed, Rebilled, Certified, Cancelled, Claimed, Totalled}
-use Rattle.model.specs.Calls.{Call, callOpen, callBill, callRebill, callCert, callCancel, callClaim, callTotal, BillRequest}
+use Rattle.model.specs.Calls.{Call, callOpen, callBill, callRebill, callCert, callCancel, callClaim, callTotal, BillRequest, request}
 use Rattle.model.specs.Document01.{document01}
 use Rattle.model.specs.History.{answersTo, ledgerMachine}
 
 -- a bill or rebill of the run, with a book of zeros
-unfoldable pub request : (contract first last kwh supply wap : ℕ) → BillRequest
-request c first last kwh s wap = record { contract = c; first = first; last = last; kwh = kwh; supply = s; wap = wap; book = replicate 1740 0 }
+unfoldable pub zeroBookRequest : (contract first last kwh supply wap : ℕ) → BillRequest
+zeroBookRequest contract first last kwh supply wap = request contract first last kwh supply wap (replicate 1740 0)
 
 unfoldable pub runCalls : List Call
 runCalls =
     callOpen 0 0 2 0 0
-    ∷ callBill (request 0 486 515 1000 67030 31980)
+    ∷ callBill (zeroBookRequest 0 486 515 1000 67030 31980)
     ∷ callClaim
     ∷ callCert 0 1 486
     ∷ callClaim
-    ∷ callRebill (request 0 486 515 901 67030 31980)
+    ∷ callRebill (zeroBookRequest 0 486 515 901 67030 31980)
     ∷ callClaim
     ∷ callCancel 0 486
     ∷ callTotal
-    ∷ callBill (request 64 486 515 1 1 1)
+    ∷ callBill (zeroBookRequest 64 486 515 1 1 1)
     ∷ []
 
 unfoldable pub runAnswers : List Answer

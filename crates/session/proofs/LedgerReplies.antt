@@ -1,11 +1,9 @@
 -- The reply of a call on the ledger, from what the call answers and leaves. Assumes nothing.
-use mathlib.Core.Path.{_≡_, ap, _∙_, subst}
+use mathlib.Core.Path.{_≡_, ap, _∙_}
 use mathlib.Core.List.{List}
 use Prim.Native.Nat.{ℕ}
 use Rattle.text.specs.declared.writing.Line.{Line}
 use Rattle.model.specs.declared.Answer.{Answer}
-use Rattle.model.specs.Calls.{Call, BillRequest}
-use Rattle.layout.specs.Theorems.{packedMachine}
 use Rattle.session.specs.AnswerLines.{lineOf}
 use Rattle.session.specs.Replies.{holding}
 
@@ -19,8 +17,3 @@ ledger-left {book = book} e = ap (λ (l : List ℕ). holding l book) e
 
 pub book-left : {ledger book after : List ℕ} → after ≡ book → holding ledger after ≡ holding ledger book
 book-left {ledger} e = ap (holding ledger) e
-
--- what a call with a request answers and leaves is so of an equal request
-pub request-met : (b : List ℕ) (call : BillRequest → Call) {a : Answer} {after : List ℕ} {p q : BillRequest} → p ≡ q
-    → (a ≡ packedMachine .answer b (call p)) × (after ≡ packedMachine .step b (call p)) → (a ≡ packedMachine .answer b (call q)) × (after ≡ packedMachine .step b (call q))
-request-met b call {a} {after} e h = subst (λ (r : BillRequest). (a ≡ packedMachine .answer b (call r)) × (after ≡ packedMachine .step b (call r))) e h

@@ -23,7 +23,7 @@ use Rattle.text.proofs.LineRoom.{refused-room}
 use Rattle.text.proofs.ShortestLines.{shortestLine, no-shorter-line}
 use Rattle.model.specs.declared.Answer.{Answer}
 use Rattle.model.specs.declared.Answer.the-variants.{Refused, Done, Billed, Rebilled, Certified, Cancelled, Claimed, Reported, Totalled}
-use Rattle.model.specs.Calls.{Call, callOpen, callBill, callRebill, callCert, callCancel, callClaim, callReport, callTotal, View, Test, _if_, firstOf, refusalNumber}
+use Rattle.model.specs.Calls.{Call, request, callOpen, callBill, callRebill, callCert, callCancel, callClaim, callReport, callTotal, View, Test, _if_, firstOf, refusalNumber}
 use Rattle.model.specs.Rules.{refusal}
 use Rattle.model.specs.Ledger.{Ledger, view, answer, outcome as ledgerOutcome, accept, unlessRefused}
 use Rattle.model.specs.Document01.{document01, tests}
@@ -33,7 +33,7 @@ use Rattle.layout.specs.Offsets.{ledgerLength}
 use Rattle.layout.specs.Theorems.{packedMachine}
 use Rattle.contract_calls.specs.Start.{startRefusal, doneUnlessRefused, startAnswer}
 use Rattle.session.specs.AnswerLines.{lineOf, dayLine, dateLine}
-use Rattle.session.specs.Replies.{State, request, badPrice, priceLine, outcome, reply}
+use Rattle.session.specs.Replies.{State, badPrice, priceLine, outcome, reply}
 use Rattle.session.specs.Transcript.{outputPerByte}
 
 -- ---- the paper's numbers are at most 13

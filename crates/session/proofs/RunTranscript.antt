@@ -11,7 +11,7 @@ use Rattle.text.specs.Commands.{formNamed, commandOf}
 use Rattle.text.specs.Lines.{lineText}
 use Rattle.model.specs.Document01.{document01}
 use Rattle.model.specs.History.{answersTo, ledgerMachine}
-use Rattle.model.specs.Run.{request, runCalls, runAnswers}
+use Rattle.model.specs.Run.{zeroBookRequest, runCalls, runAnswers}
 use Rattle.model.proofs.Document01.{document01-laws}
 use Rattle.model.proofs.Refinement.{same-answers}
 use Rattle.model.proofs.BytesBalance.{bytes-refine}
@@ -55,7 +55,7 @@ unfolding runCommands linesText printed logOf logCommand emptyLog
 run-lines = refl
 
 run-answers : logOf runCommands .lines ≡ map lineOf (answersTo packedMachine 0 runCalls)
-unfolding runCommands runCalls request logOf logCommand emptyLog
+unfolding runCommands runCalls zeroBookRequest logOf logCommand emptyLog
 run-answers = log-answers runCommands
 
 model-answers : answersTo packedMachine 0 runCalls ≡ runAnswers

@@ -9,7 +9,7 @@ use lib.Dec.{ltb, eqb}
 use lib.ListN.{length, set}
 use Rattle.text.specs.declared.reading.Command.{Command}
 use Rattle.text.specs.declared.writing.Line.{Line}
-use Rattle.model.specs.Calls.{Call, callOpen, callBill, callRebill, callCert, callCancel, callClaim, callReport, callTotal, _if_}
+use Rattle.model.specs.Calls.{Call, request, callOpen, callBill, callRebill, callCert, callCancel, callClaim, callReport, callTotal, _if_}
 use Rattle.model.specs.Document01.{document01}
 use Rattle.model.specs.Ledger.{fresh}
 use Rattle.model.specs.Format.{unlessRefused}
@@ -23,7 +23,7 @@ use Rattle.layout.specs.Theorems.{packedMachine}
 use Rattle.layout.proofs.PackedLedger.{demand-three}
 use Rattle.contract_calls.specs.Start.{startRefusal, doneUnlessRefused, startAnswer, startBytes}
 use Rattle.session.specs.AnswerLines.{lineOf}
-use Rattle.session.specs.Replies.{State, holding, initial, onLedger, request, badPrice, priceLine, bookWith, outcome, reply, next}
+use Rattle.session.specs.Replies.{State, holding, initial, onLedger, badPrice, priceLine, bookWith, outcome, reply, next}
 use Rattle.session.specs.Transcript.{Exchange, exchanges, inputCommands}
 use Rattle.session.specs.SessionBalance.{Log, emptyLog, isOk, withCall, logCommand, logOf, stateAfterCommands, EverySessionBalances}
 

@@ -7,7 +7,7 @@ use lib.ListN.{replicate, set}
 use Rattle.calendar.specs.Answers.{dayAnswer, dateAnswer}
 use Rattle.text.specs.declared.reading.Command.{Command}
 use Rattle.text.specs.declared.writing.Line.{Line}
-use Rattle.model.specs.Calls.{Call, BillRequest, callOpen, callBill, callRebill, callCert, callCancel, callClaim, callReport, callTotal}
+use Rattle.model.specs.Calls.{Call, request, callOpen, callBill, callRebill, callCert, callCancel, callClaim, callReport, callTotal}
 use Rattle.layout.specs.Theorems.{packedMachine}
 use Rattle.contract_calls.specs.Start.{startAnswer, startBytes}
 use Rattle.session.specs.AnswerLines.{lineOf, dayLine, dateLine}
@@ -43,10 +43,6 @@ onLedger s c = record {
   line = lineOf (packedMachine .answer (s .ledger) c);
   next = holding (packedMachine .step (s .ledger) c) (s .book);
 }
-
--- the numbers of a bill or rebill with the book as it is
-abbrev pub request : (contract first last kwh supply wap : ℕ) → (book : List ℕ) → BillRequest
-request contract first last kwh supply wap book = record { contract = contract; first = first; last = last; kwh = kwh; supply = supply; wap = wap; book = book }
 
 -- start keeps the book
 abbrev pub starting : State → (territory : ℕ) → Outcome

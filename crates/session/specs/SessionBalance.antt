@@ -7,13 +7,13 @@ use Prim.Native.Nat.{ℕ, _≤_}
 use lib.ListN.{replicate, set}
 use Rattle.text.specs.declared.reading.Command.{Command}
 use Rattle.text.specs.declared.writing.Line.{Line}
-use Rattle.model.specs.Calls.{Call, callOpen, callBill, callRebill, callCert, callCancel, callClaim, callReport, callTotal}
+use Rattle.model.specs.Calls.{Call, request, callOpen, callBill, callRebill, callCert, callCancel, callClaim, callReport, callTotal}
 use Rattle.model.specs.Document01.{document01}
 use Rattle.model.specs.History.{run, sheetAfter, stateAfter, answersTo}
 use Rattle.model.specs.Document01Balance.{BalancedByRates}
 use Rattle.layout.specs.Theorems.{packedMachine}
 use Rattle.session.specs.AnswerLines.{lineOf}
-use Rattle.session.specs.Replies.{State, bookLength, initial, request, next}
+use Rattle.session.specs.Replies.{State, bookLength, initial, next}
 use Rattle.session.specs.Transcript.{exchanges, inputCommands}
 
 -- what is read off the exchanges of a session, and no byte of the ledger: the book as it then is, and since the last accepted start (or the

@@ -2,16 +2,15 @@
 use crate::answers::date_line;
 use crate::answers::day_line;
 use crate::answers::line_of;
-use bill_refusals::Request;
+use bill_refusals::request_of;
 use text::reading::Command;
 use text::writing::Line;
 ghost use mathlib.Core.Path.{_≡_};
 ghost use mathlib.Core.List.{List};
 ghost use Prim.Native.Nat.{ℕ, _≤_};
 ghost use lib.ListN.{length};
-ghost use Rattle.bill_refusals.specs.Requests.{billRequest};
 ghost use Rattle.session.specs.CommandGroups.{group};
-ghost use Rattle.session.specs.Replies.{holding, bookLength, priceLine, bookWith, request, reply, next};
+ghost use Rattle.session.specs.Replies.{holding, bookLength, priceLine, bookWith, reply, next};
 
 // The last index of the book.
 const LAST_ENTRY: u32 = 1739;
@@ -66,20 +65,6 @@ fn reply_on_claims(command: Command, ledger: &mut [u8], book: &mut [u32]) -> Lin
     }
 }
 
-// The numbers of a bill or rebill.
-fn request(contract: u32, first: u32, last: u32, kwh: u32, supply: u32, wap: u32) -> Request
-    ensures { λ r. ⌜ ((book : List ℕ) → billRequest r book ≡ request contract first last kwh supply wap book) ⌝ }
-{
-    Request {
-        contract,
-        first,
-        last,
-        kwh,
-        supply,
-        wap,
-    }
-}
-
 // bill, rebill and cancel.
 fn reply_on_bills(command: Command, ledger: &mut [u8], book: &mut [u32]) -> Line
     requires { ⌜ (length (now book) ≡ bookLength) × (1 ≤ group command) ⌝ }
@@ -94,7 +79,7 @@ fn reply_on_bills(command: Command, ledger: &mut [u8], book: &mut [u32]) -> Line
             supply,
             wap,
         } => {
-            let asked = request(contract, first, last, kwh, supply, wap);
+            let asked = request_of(contract, first, last, kwh, supply, wap);
             line_of(bill_calls::bill(ledger, book, asked))
         }
         Command::Rebill {
@@ -105,7 +90,7 @@ fn reply_on_bills(command: Command, ledger: &mut [u8], book: &mut [u32]) -> Line
             supply,
             wap,
         } => {
-            let asked = request(contract, first, last, kwh, supply, wap);
+            let asked = request_of(contract, first, last, kwh, supply, wap);
             line_of(bill_calls::rebill(ledger, book, asked))
         }
         Command::Cancel { contract, first } => {

@@ -5,7 +5,8 @@ use Rattle.model.specs.Calls.{callBill, callRebill}
 use Rattle.session.specs.Replies.{outcome}
 use borrow.Author.Needs.{needs}
 use Rattle.session.proofs.CommandGroups.{past-group}
-use Rattle.session.proofs.LedgerReplies.{line-said, ledger-left, request-met}
+use Rattle.bill_calls.proofs.EqualRequests.{request-met}
+use Rattle.session.proofs.LedgerReplies.{line-said, ledger-left}
 use Rattle.session.proofs.replies.reply_on_bills.Statement.{statement}
 use Rattle.session.proofs.replies.reply_on_bills.Tie as tie
 
@@ -20,7 +21,7 @@ unfolding outcome
 returns c =
     let d = c .before .before .before in
     let k = d .before .before .before .before .before in
-    let made = request-met _ callBill (d .before .before .before .request .ensures _) (d .bill .ensures) in
+    let made = request-met _ callBill (d .before .before .before .request-of .ensures _) (d .bill .ensures) in
     rw (k .command .given .1) (line-said (c .line-of .ensures) (made .0), ledger-left (made .1))
 
 returns-2 : tie.Need-returns-2
@@ -28,7 +29,7 @@ unfolding outcome
 returns-2 c =
     let d = c .before .before .before in
     let k = d .before .before .before .before .before in
-    let made = request-met _ callRebill (d .before .before .before .request2 .ensures _) (d .rebill .ensures) in
+    let made = request-met _ callRebill (d .before .before .before .request-of2 .ensures _) (d .rebill .ensures) in
     rw (k .command2 .given .1) (line-said (c .line-of2 .ensures) (made .0), ledger-left (made .1))
 
 returns-3 : tie.Need-returns-3
