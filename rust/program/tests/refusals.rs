@@ -1,5 +1,6 @@
 //! Document 01, "Turned down, in checking order": each number that the program can meet, and for each pair of neighbouring tests a
-//! line that fails both, which the lower number turns down. The program's own ledger and book never meet numbers 2 and 3.
+//! line that fails both, which the lower number turns down. The program's own ledger and book never meet numbers 2 and 3; the tests
+//! of the package `ebds` do.
 
 use program::expect;
 
