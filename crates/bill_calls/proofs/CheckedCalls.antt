@@ -7,36 +7,33 @@ use Rattle.model.specs.declared.Answer.the-variants.{Refused}
 use Rattle.model.specs.Calls.{Call}
 use Rattle.model.specs.Rules.{refusal}
 use Rattle.model.specs.Ledger.{accept}
-use Rattle.model.specs.Document01.{document01}
-use Rattle.layout.specs.Layout.{ledgerOf, bytesOf}
-use Rattle.layout.specs.PackedLedger.{packedLayout}
-use Rattle.layout.specs.Theorems.{packedMachine}
-use Rattle.ledger.specs.declared.check.Checked.the-variants.{Malformed, WellFormed as Formed}
-use Rattle.ledger.specs.Check.{checkedOf}
-use Rattle.ledger.proofs.Machine.{Sound, check-sound, searched, machine-accepted, answered-and-left, malformed-refused, number-refused}
+use Rattle.layout.specs.declared.Checked.the-variants.{Malformed, WellFormed as Formed}
+use Rattle.layout.specs.Present.{checkedOf, rules, facts, bytes, machine}
+use Rattle.layout.proofs.Present.{Sound, present}
+use Rattle.layout.proofs.Machine.{check-sound, searched, machine-accepted, answered-and-left, malformed-refused, number-refused}
 use Rattle.bill_refusals.specs.Requests.{viewOf, Accepted}
 
 module _ (b : List ℕ) (call : Call) where
   -- the answer and the bytes left are the machine's
   abbrev pub Meets : Answer → List ℕ → Type 0
-  Meets a after = (a ≡ packedMachine .answer b call) × (after ≡ packedMachine .step b call)
+  Meets a after = (a ≡ machine .answer b call) × (after ≡ machine .step b call)
 
   pub malformed-meets : Malformed ≡ checkedOf b → Meets (Refused 2) b
-  malformed-meets e = answered-and-left (malformed-refused b call e)
+  malformed-meets e = answered-and-left (malformed-refused present b call e)
 
   -- the check found the ledger well formed, and n is the number that turns the call down, or 0
-  module _ (rows sum n : ℕ) (checked : Formed rows sum ≡ checkedOf b) (told : n ≡ refusal document01 (viewOf b) call) where
+  module _ (rows sum n : ℕ) (checked : Formed rows sum ≡ checkedOf b) (told : n ≡ refusal rules (viewOf b) call) where
     sound : Sound b rows sum
-    sound = check-sound b rows sum checked
+    sound = check-sound present b rows sum checked
 
     pub refused-meets : (n ≡ 0 → ⊥) → Meets (Refused n) b
-    refused-meets some = answered-and-left (number-refused b call n sound told some)
+    refused-meets some = answered-and-left (number-refused present b call n sound told some)
 
     pub call-accepted : n ≡ 0 → Accepted b rows call
-    call-accepted none = record { searched = searched b sound; nothing = sym told ∙ none }
+    call-accepted none = record { searched = searched present b sound; nothing = sym told ∙ none }
 
     pub accepted-meets : n ≡ 0 → (a : Answer) (after : List ℕ)
-        → (a ≡ accept document01 (ledgerOf document01 packedLayout b) call .answers) × (after ≡ bytesOf document01 packedLayout (accept document01 (ledgerOf document01 packedLayout b) call .next)) → Meets a after
+        → (a ≡ accept rules (facts b) call .answers) × (after ≡ bytes (accept rules (facts b) call .next)) → Meets a after
     accepted-meets none a after e =
-        let m = machine-accepted b call (sound .formed) (sym told ∙ none) in
+        let m = machine-accepted present b call (sound .formed) (sym told ∙ none) in
         (e .0 ∙ sym (m .answered), e .1 ∙ sym (m .left))

@@ -1,11 +1,11 @@
 // What an accepted bill, rebill or cancellation answers and leaves.
-use bill_refusals::Request;
 use bill_refusals::book;
 use ledger::contracts::contract_at;
 use ledger::rows::RowTest;
 use ledger::rows::first_row;
 use ledger::rows::row_at;
 use model::Answer;
+use model::Request;
 use model::Row;
 use rates::Bill;
 use rates::Contract;
@@ -14,16 +14,14 @@ ghost use mathlib.Core.Path.{_≡_};
 ghost use Prim.Native.Nat.{_≤_};
 ghost use Rattle.model.specs.Calls.{callBill, callRebill, callCancel};
 ghost use Rattle.model.specs.Ledger.{priced, accept};
-ghost use Rattle.model.specs.Document01.{document01};
-ghost use Rattle.layout.specs.Layout.{ledgerOf, bytesOf};
-ghost use Rattle.layout.specs.PackedLedger.{packedLayout};
-ghost use Rattle.bill_refusals.specs.Requests.{billRequest, billOf, Accepted};
+ghost use Rattle.bill_refusals.specs.Requests.{billOf, Accepted};
+ghost use Rattle.layout.specs.Present.{rules, facts, bytes};
 ghost use Rattle.bill_calls.specs.RatedRows.{ratedRow, Rateable};
 
 // The row of a request under its contract.
 fn row_of(contract: Contract, book: &[u32], request: Request) -> Row
     requires { ⌜ (request .kwh ≤ 100000000) × (request .supply ≤ 999999) ⌝ }
-    ensures { λ r. ⌜ r ≡ priced document01 contract (billOf contract (billRequest request (now (book .entry)))) ⌝ }
+    ensures { λ r. ⌜ r ≡ priced rules contract (billOf contract request (now (book .entry))) ⌝ }
 {
     let bill = Bill {
         contract: request.contract,
@@ -47,8 +45,8 @@ struct RatedRow {
 
 // The row of a request under the contract that it names, with its rate.
 fn rated_row(ledger: &[u8], book: &[u32], request: Request) -> RatedRow
-    requires { ⌜ Rateable (now ledger) (billRequest request (now book)) ⌝ }
-    ensures { λ r. ⌜ r ≡ ratedRow (now (ledger .entry)) (billRequest request (now (book .entry))) ⌝ }
+    requires { ⌜ Rateable (now ledger) request (now book) ⌝ }
+    ensures { λ r. ⌜ r ≡ ratedRow (now (ledger .entry)) request (now (book .entry)) ⌝ }
 {
     let contract = contract_at(ledger, request.contract as usize);
     let row = row_of(contract, book, request);
@@ -61,8 +59,8 @@ fn rated_row(ledger: &[u8], book: &[u32], request: Request) -> RatedRow
 
 // bill: the row goes in at its place.
 pub fn accept_bill(ledger: &mut [u8], rows: usize, book: &[u32], request: Request) -> Answer
-    requires { ⌜ Accepted (now ledger) rows (callBill (billRequest request (now book))) ⌝ }
-    ensures { λ r. ⌜ (r ≡ accept document01 (ledgerOf document01 packedLayout (now (ledger .entry))) (callBill (billRequest request (now (book .entry)))) .answers) × (now (ledger .exit) ≡ bytesOf document01 packedLayout (accept document01 (ledgerOf document01 packedLayout (now (ledger .entry))) (callBill (billRequest request (now (book .entry)))) .next)) ⌝ }
+    requires { ⌜ Accepted (now ledger) rows (callBill request (now book)) ⌝ }
+    ensures { λ r. ⌜ (r ≡ accept rules (facts (now (ledger .entry))) (callBill request (now (book .entry))) .answers) × (now (ledger .exit) ≡ bytes (accept rules (facts (now (ledger .entry))) (callBill request (now (book .entry))) .next)) ⌝ }
 {
     let rated = rated_row(ledger, book, request);
     let row = rated.row;
@@ -82,8 +80,8 @@ pub fn accept_bill(ledger: &mut [u8], rows: usize, book: &[u32], request: Reques
 
 // rebill: the row takes the place of the one with that contract and first day.
 pub fn accept_rebill(ledger: &mut [u8], rows: usize, book: &[u32], request: Request) -> Answer
-    requires { ⌜ Accepted (now ledger) rows (callRebill (billRequest request (now book))) ⌝ }
-    ensures { λ r. ⌜ (r ≡ accept document01 (ledgerOf document01 packedLayout (now (ledger .entry))) (callRebill (billRequest request (now (book .entry)))) .answers) × (now (ledger .exit) ≡ bytesOf document01 packedLayout (accept document01 (ledgerOf document01 packedLayout (now (ledger .entry))) (callRebill (billRequest request (now (book .entry)))) .next)) ⌝ }
+    requires { ⌜ Accepted (now ledger) rows (callRebill request (now book)) ⌝ }
+    ensures { λ r. ⌜ (r ≡ accept rules (facts (now (ledger .entry))) (callRebill request (now (book .entry))) .answers) × (now (ledger .exit) ≡ bytes (accept rules (facts (now (ledger .entry))) (callRebill request (now (book .entry))) .next)) ⌝ }
 {
     let rated = rated_row(ledger, book, request);
     let row = rated.row;
@@ -105,7 +103,7 @@ pub fn accept_rebill(ledger: &mut [u8], rows: usize, book: &[u32], request: Requ
 // cancel: the row goes.
 pub fn accept_cancel(ledger: &mut [u8], rows: usize, contract: u32, first: u32) -> Answer
     requires { ⌜ Accepted (now ledger) rows (callCancel contract first) ⌝ }
-    ensures { λ r. ⌜ (r ≡ accept document01 (ledgerOf document01 packedLayout (now (ledger .entry))) (callCancel contract first) .answers) × (now (ledger .exit) ≡ bytesOf document01 packedLayout (accept document01 (ledgerOf document01 packedLayout (now (ledger .entry))) (callCancel contract first) .next)) ⌝ }
+    ensures { λ r. ⌜ (r ≡ accept rules (facts (now (ledger .entry))) (callCancel contract first) .answers) × (now (ledger .exit) ≡ bytes (accept rules (facts (now (ledger .entry))) (callCancel contract first) .next)) ⌝ }
 {
     let place = first_row(ledger, rows, RowTest::Named { contract, first });
     let old = row_at(ledger, place);

@@ -1,10 +1,10 @@
 // What turns a bill, a rebill or a cancellation down, in checking order, once the ledger is well formed.
-use crate::Request;
 use crate::book;
 use ledger::contracts::contract_at;
 use ledger::contracts::is_open;
 use ledger::rows::RowTest;
 use ledger::rows::first_row;
+use model::Request;
 use rates::Contract;
 ghost use mathlib.Core.Path.{_≡_};
 ghost use mathlib.Core.List.{[]};
@@ -13,13 +13,14 @@ ghost use lib.Dec.{ltb};
 ghost use Rattle.model.specs.Contracts.{contractAt};
 ghost use Rattle.model.specs.Calls.{callBill, callRebill, callCancel, firstOf};
 ghost use Rattle.model.specs.Rules.{refusal};
-ghost use Rattle.model.specs.Document01.{document01, badAmounts, noPrice};
-ghost use Rattle.ledger.specs.Rows.{rowPasses, Searched};
-ghost use Rattle.bill_refusals.specs.Requests.{billRequest, sharedTests, billTests, rebillTests, viewOf, Open};
+ghost use Rattle.model.specs.Document01.{badAmounts, noPrice};
+ghost use Rattle.ledger.specs.Rows.{rowPasses};
+ghost use Rattle.bill_refusals.specs.Requests.{sharedTests, billTests, rebillTests, viewOf, Open};
+ghost use Rattle.layout.specs.Present.{Searched, rules};
 
 // kWh, S or WAP is out of range, or a WAP is not 0 where the contract is not flexible.
 fn bad_amounts(contract: Contract, request: Request) -> bool
-    ensures { λ r. ⌜ r ≡ badAmounts contract (billRequest request []) ⌝ }
+    ensures { λ r. ⌜ r ≡ badAmounts contract request ⌝ }
 {
     if 100000000 < request.kwh {
         return true;
@@ -43,7 +44,7 @@ fn bad_amounts(contract: Contract, request: Request) -> bool
 // Refusals 3, 4, 5, 7 and 8, which bill and rebill share; 0 where none fits.
 fn refused_request(b: &[u8], rows: usize, book: &[u32], request: Request) -> u32
     requires { ⌜ Searched (now b) rows ⌝ }
-    ensures { λ r. ⌜ r ≡ firstOf (sharedTests (viewOf (now (b .entry))) (billRequest request (now (book .entry)))) ⌝ }
+    ensures { λ r. ⌜ r ≡ firstOf (sharedTests (viewOf (now (b .entry))) request (now (book .entry))) ⌝ }
 {
     if book::bad_book(book) {
         return 3;
@@ -68,7 +69,7 @@ fn refused_request(b: &[u8], rows: usize, book: &[u32], request: Request) -> u32
 // The book's price that the contract needs is 0.
 fn no_price(b: &[u8], rows: usize, book: &[u32], request: Request) -> bool
     requires { ⌜ Open (now b) rows (request .contract) ⌝ }
-    ensures { λ r. ⌜ r ≡ noPrice (contractAt (viewOf (now (b .entry)) .contracts) (request .contract)) (billRequest request (now (book .entry))) ⌝ }
+    ensures { λ r. ⌜ r ≡ noPrice (contractAt (viewOf (now (b .entry)) .contracts) (request .contract)) request (now (book .entry)) ⌝ }
 {
     let c = request.contract as usize;
     let contract = contract_at(b, c);
@@ -93,7 +94,7 @@ fn any_row(b: &[u8], rows: usize, test: RowTest) -> bool
 // Refusals 10, 11 and 12 of a bill that nothing before turns down.
 fn refused_new_row(b: &[u8], rows: usize, book: &[u32], request: Request) -> u32
     requires { ⌜ Open (now b) rows (request .contract) ⌝ }
-    ensures { λ r. ⌜ r ≡ firstOf (billTests (viewOf (now (b .entry))) (billRequest request (now (book .entry)))) ⌝ }
+    ensures { λ r. ⌜ r ≡ firstOf (billTests (viewOf (now (b .entry))) request (now (book .entry))) ⌝ }
 {
     let span = RowTest::Sharing {
         contract: request.contract,
@@ -115,7 +116,7 @@ fn refused_new_row(b: &[u8], rows: usize, book: &[u32], request: Request) -> u32
 // Refusals 9, 10 and 11 of a rebill that nothing before turns down.
 fn refused_row_again(b: &[u8], rows: usize, book: &[u32], request: Request) -> u32
     requires { ⌜ Open (now b) rows (request .contract) ⌝ }
-    ensures { λ r. ⌜ r ≡ firstOf (rebillTests (viewOf (now (b .entry))) (billRequest request (now (book .entry)))) ⌝ }
+    ensures { λ r. ⌜ r ≡ firstOf (rebillTests (viewOf (now (b .entry))) request (now (book .entry))) ⌝ }
 {
     let row = RowTest::Named {
         contract: request.contract,
@@ -141,7 +142,7 @@ fn refused_row_again(b: &[u8], rows: usize, book: &[u32], request: Request) -> u
 // The number that turns a bill down, 0 where none does.
 pub fn refused_bill(b: &[u8], rows: usize, book: &[u32], request: Request) -> u32
     requires { ⌜ Searched (now b) rows ⌝ }
-    ensures { λ r. ⌜ r ≡ refusal document01 (viewOf (now (b .entry))) (callBill (billRequest request (now (book .entry)))) ⌝ }
+    ensures { λ r. ⌜ r ≡ refusal rules (viewOf (now (b .entry))) (callBill request (now (book .entry))) ⌝ }
 {
     let refused = refused_request(b, rows, book, request);
     if refused == 0 {
@@ -153,7 +154,7 @@ pub fn refused_bill(b: &[u8], rows: usize, book: &[u32], request: Request) -> u3
 // The number that turns a rebill down, 0 where none does.
 pub fn refused_rebill(b: &[u8], rows: usize, book: &[u32], request: Request) -> u32
     requires { ⌜ Searched (now b) rows ⌝ }
-    ensures { λ r. ⌜ r ≡ refusal document01 (viewOf (now (b .entry))) (callRebill (billRequest request (now (book .entry)))) ⌝ }
+    ensures { λ r. ⌜ r ≡ refusal rules (viewOf (now (b .entry))) (callRebill request (now (book .entry))) ⌝ }
 {
     let refused = refused_request(b, rows, book, request);
     if refused == 0 {
@@ -165,7 +166,7 @@ pub fn refused_rebill(b: &[u8], rows: usize, book: &[u32], request: Request) -> 
 // The number that turns a cancellation down, 0 where none does.
 pub fn refused_cancel(b: &[u8], rows: usize, contract: u32, first: u32) -> u32
     requires { ⌜ Searched (now b) rows ⌝ }
-    ensures { λ r. ⌜ r ≡ refusal document01 (viewOf (now (b .entry))) (callCancel contract first) ⌝ }
+    ensures { λ r. ⌜ r ≡ refusal rules (viewOf (now (b .entry))) (callCancel contract first) ⌝ }
 {
     let c = contract as usize;
     if 63 < c {

@@ -15,19 +15,18 @@ use Rattle.model.specs.declared.Answer.the-variants.{Refused, Claimed, Totalled
 use Rattle.model.specs.Contracts.{isOpen}
 use Rattle.model.specs.Calls.{callClaim, callReport, callTotal}
 use Rattle.model.specs.Rules.{refusal}
-use Rattle.model.specs.Document01.{document01, tests}
+use Rattle.model.specs.Document01.{tests}
 use Rattle.model.specs.Ledger.{Ledger, view, accept}
-use Rattle.layout.specs.Layout.{territoryIn, claimsIn, penceIn, contractsIn, wellFormed, ledgerOf}
-use Rattle.layout.specs.PackedLedger.{packedLayout}
-use Rattle.layout.specs.Theorems.{packedMachine}
+use Rattle.layout.specs.Layout.{territoryIn, claimsIn, penceIn, wellFormed, ledgerOf}
 use Rattle.edits.proofs.PackedChanges.{written-header}
-use Rattle.ledger.proofs.HeldRows.{formed-length}
-use Rattle.ledger.proofs.Machine.{Answers, Sound, machine-refused, machine-accepted}
+use Rattle.layout.proofs.Present.{formed-length, Answers, Sound, present}
+use Rattle.layout.proofs.Machine.{machine-refused, machine-accepted}
+use Rattle.layout.specs.Present.{rules, layout, facts, contracts, machine}
 use Rattle.claim_calls.proofs.HeldSums.{due-low}
 
 module _ (b : List ℕ) where
   abbrev l : Ledger
-  l = ledgerOf document01 packedLayout b
+  l = facts b
 
   -- ---- what a well-formed ledger has
 
@@ -38,51 +37,51 @@ module _ (b : List ℕ) where
     pub due-fits : due < 2 ^ 60
     due-fits = omega (arith, s .total, due-low l (s .facts))
 
-    pub territory-fits : (territory : ℕ) → territory ≡ territoryIn document01 packedLayout b → territory ≤ 1
+    pub territory-fits : (territory : ℕ) → territory ≡ territoryIn rules layout b → territory ≤ 1
     unfolding ledgerOf
     territory-fits territory e = omega (arith, s .facts .territory)
 
-    pub pence-fits : (pence : ℕ) → pence ≡ penceIn document01 packedLayout b → pence < 2 ^ 47
+    pub pence-fits : (pence : ℕ) → pence ≡ penceIn rules layout b → pence < 2 ^ 47
     unfolding ledgerOf
     pence-fits pence e = omega (arith, s .facts .pence)
 
   -- ---- claim
 
-  pub claim-refused : wellFormed document01 packedLayout b ≡ true → (claims : ℕ) → claims ≡ claimsIn document01 packedLayout b → 1000 ≤ claims → Answers b callClaim (Refused 13) b
+  pub claim-refused : wellFormed rules layout b ≡ true → (claims : ℕ) → claims ≡ claimsIn rules layout b → 1000 ≤ claims → Answers b callClaim (Refused 13) b
   unfolding refusal tests view ledgerOf
-  claim-refused f claims e h = machine-refused b callClaim f 13 (omega arith) (rw (yes-le 1000 (claimsIn document01 packedLayout b) (omega arith)))
+  claim-refused f claims e h = machine-refused present b callClaim f 13 (omega arith) (rw (yes-le 1000 (claimsIn rules layout b) (omega arith)))
 
   -- with the header that is then written
   pub claim-accepted : {rows due : ℕ} → Sound b rows due → (territory claims before : ℕ)
-      → territory ≡ territoryIn document01 packedLayout b → claims ≡ claimsIn document01 packedLayout b → before ≡ penceIn document01 packedLayout b → claims < 1000
-      → (after : List ℕ) → after ≡ replaceAt 0 (pack (packedLayout .header) (territory ∷ (claims + 1) ∷ (due / 10000) ∷ [])) b
+      → territory ≡ territoryIn rules layout b → claims ≡ claimsIn rules layout b → before ≡ penceIn rules layout b → claims < 1000
+      → (after : List ℕ) → after ≡ replaceAt 0 (pack (layout .header) (territory ∷ (claims + 1) ∷ (due / 10000) ∷ [])) b
       → Answers b callClaim (Claimed (subℕ (due / 10000) before) (due % 10000)) after
   unfolding refusal tests view accept ledgerOf
   claim-accepted s territory claims before t e p h after w =
-      let m = machine-accepted b callClaim (s .formed) (rw (no-le 1000 (claimsIn document01 packedLayout b) (omega arith))) in
+      let m = machine-accepted present b callClaim (s .formed) (rw (no-le 1000 (claimsIn rules layout b) (omega arith))) in
       record {
         answered = m .answered ∙ rw (sym (s .total), sym p);
-        left = m .left ∙ sym (written-header l b after (s .packed) _ _ (w ∙ rw (t, e, s .total, add-one (claimsIn document01 packedLayout b))));
+        left = m .left ∙ sym (written-header l b after (s .packed) _ _ (w ∙ rw (t, e, s .total, add-one (claimsIn rules layout b))));
       }
 
   -- ---- report
 
-  module _ (c : ℕ) (f : wellFormed document01 packedLayout b ≡ true) where
+  module _ (c : ℕ) (f : wellFormed rules layout b ≡ true) where
     pub report-bad-number : 63 < c → Answers b (callReport c) (Refused 4) b
     unfolding refusal tests
-    report-bad-number h = machine-refused b (callReport c) f 4 (omega arith) (rw (yes-lt 63 c h))
+    report-bad-number h = machine-refused present b (callReport c) f 4 (omega arith) (rw (yes-lt 63 c h))
 
-    pub report-not-open : c ≤ 63 → isOpen (contractsIn document01 packedLayout b) c ≡ false → Answers b (callReport c) (Refused 5) b
+    pub report-not-open : c ≤ 63 → isOpen (contracts b) c ≡ false → Answers b (callReport c) (Refused 5) b
     unfolding refusal tests view ledgerOf
-    report-not-open h e = machine-refused b (callReport c) f 5 (omega arith) (rw (le-ltb 63 c h, e))
+    report-not-open h e = machine-refused present b (callReport c) f 5 (omega arith) (rw (le-ltb 63 c h, e))
 
-    pub report-accepted : c ≤ 63 → isOpen (contractsIn document01 packedLayout b) c ≡ true → packedMachine .answer b (callReport c) ≡ accept document01 l (callReport c) .answers
+    pub report-accepted : c ≤ 63 → isOpen (contracts b) c ≡ true → machine .answer b (callReport c) ≡ accept rules l (callReport c) .answers
     unfolding refusal tests view ledgerOf
-    report-accepted h e = machine-accepted b (callReport c) f (rw (le-ltb 63 c h, e)) .answered
+    report-accepted h e = machine-accepted present b (callReport c) f (rw (le-ltb 63 c h, e)) .answered
 
   -- ---- total
 
-  pub total-accepted : {rows due : ℕ} → Sound b rows due → (pence : ℕ) → pence ≡ penceIn document01 packedLayout b
-      → packedMachine .answer b callTotal ≡ Totalled due (subℕ due (10000 * pence))
+  pub total-accepted : {rows due : ℕ} → Sound b rows due → (pence : ℕ) → pence ≡ penceIn rules layout b
+      → machine .answer b callTotal ≡ Totalled due (subℕ due (10000 * pence))
   unfolding refusal tests accept ledgerOf
-  total-accepted s pence p = machine-accepted b callTotal (s .formed) refl .answered ∙ rw (sym (s .total), sym p)
+  total-accepted s pence p = machine-accepted present b callTotal (s .formed) refl .answered ∙ rw (sym (s .total), sym p)

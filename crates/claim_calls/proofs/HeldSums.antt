@@ -13,18 +13,18 @@ use Rattle.basics.proofs.Tests.{le-yes}
 use Rattle.basics.proofs.Lists.{all-map, total-most}
 use Rattle.model.specs.declared.Row.{Row}
 use Rattle.model.specs.Rules.{partOfDue}
-use Rattle.model.specs.Document01.{document01}
 use Rattle.model.specs.Ledger.{Ledger, due}
 use Rattle.model.specs.WellFormed.{RowOk, WellFormed}
 use Rattle.model.proofs.Document01.{bill-test, document01-laws}
+use Rattle.layout.specs.Present.{rules}
 
 -- ---- bounds
 
-module _ (l : Ledger) (f : WellFormed document01 l) (p : Row → Bool) where
+module _ (l : Ledger) (f : WellFormed rules l) (p : Row → Bool) where
   -- the rows that pass the test, each with at most n
-  most : (w : Row → ℕ) (n : ℕ) → ((x : Row) → RowOk document01 (l .contracts) x → w x ≤ n) → total (λ x. cond (p x) (w x) 0) (l .rows) ≤ 1024 * n
+  most : (w : Row → ℕ) (n : ℕ) → ((x : Row) → RowOk rules (l .contracts) x → w x ≤ n) → total (λ x. cond (p x) (w x) 0) (l .rows) ≤ 1024 * n
   most w n low =
-      let t = total-most (λ x. cond (p x) (w x) 0) n (l .rows) (all-map (RowOk document01 (l .contracts)) _ (λ x o. either-way (p x) (w x) (low x o)) (l .rows) (f .rows)) in
+      let t = total-most (λ x. cond (p x) (w x) 0) n (l .rows) (all-map (RowOk rules (l .contracts)) _ (λ x o. either-way (p x) (w x) (low x o)) (l .rows) (f .rows)) in
       let h : length (l .rows) * n ≤ 1024 * n = mul-le-mul-right n (f .count) in
       omega arith
     where
@@ -42,7 +42,7 @@ module _ (l : Ledger) (f : WellFormed document01 l) (p : Row → Bool) where
   unfolding partOfDue
   amounts-low = most (λ x. x .amount) 1000000000000000 (λ x o. omega (arith, o .part, document01-laws .low _ (x .bill) (o .ranges)))
 
-pub due-low : (l : Ledger) → WellFormed document01 l → due l ≤ 1024 * 1000000000000000
+pub due-low : (l : Ledger) → WellFormed rules l → due l ≤ 1024 * 1000000000000000
 unfolding due
 due-low l f = amounts-low l f (λ x. true)
 

@@ -10,9 +10,9 @@ use Rattle.basics.proofs.Tests.{yes-eq, no-eq}
 use Rattle.model.specs.declared.Row.{Row}
 use Rattle.model.specs.declared.Answer.the-variants.{Reported}
 use Rattle.model.specs.Calls.{callReport}
-use Rattle.model.specs.Document01.{document01}
 use Rattle.model.specs.Ledger.{Ledger, ofContract, accept}
 use Rattle.model.specs.WellFormed.{WellFormed}
+use Rattle.layout.specs.Present.{rules}
 use Rattle.claim_calls.proofs.HeldSums.{count-low, kwh-low, amounts-low, SummedTo, summed-none, summed-next, summed-all}
 
 module _ (c : ℕ) where
@@ -59,10 +59,10 @@ module _ (c : ℕ) where
 
   -- the sums fit, and are the report's at the end
   module _ (l : Ledger) (i rows kwh due : ℕ) (r : ReportedTo (l .rows) i rows kwh due) where
-    pub reported-low : WellFormed document01 l → (rows ≤ 1024) × ((kwh ≤ 1024 * 100000000) × (due ≤ 1024 * 1000000000000000))
+    pub reported-low : WellFormed rules l → (rows ≤ 1024) × ((kwh ≤ 1024 * 100000000) × (due ≤ 1024 * 1000000000000000))
     reported-low f = (omega (arith, r .rows-to, count-low l f (ofContract c)), (omega (arith, r .kwh-to, kwh-low l f (ofContract c)), omega (arith, r .due-to, amounts-low l f (ofContract c))))
 
-    pub reported-all : i ≡ length (l .rows) → Reported rows kwh due ≡ accept document01 l (callReport c) .answers
+    pub reported-all : i ≡ length (l .rows) → Reported rows kwh due ≡ accept rules l (callReport c) .answers
     unfolding accept
     reported-all e =
         rw (summed-all (forContract (λ x. 1)) (l .rows) i rows e (r .rows-to), summed-all (forContract (λ x. x .bill .kwh)) (l .rows) i kwh e (r .kwh-to), summed-all (forContract (λ x. x .amount)) (l .rows) i due e (r .due-to))

@@ -1,6 +1,6 @@
 // The calls claim, report and total on a lent ledger, for any bytes of any length.
 use codec::header::write_header;
-use ledger::check::Checked;
+use layout::Checked;
 use ledger::check::check;
 use ledger::contracts::is_open;
 use ledger::rows::row_at;
@@ -8,12 +8,8 @@ use model::Answer;
 use signed::difference;
 ghost use mathlib.Core.Path.{_≡_};
 ghost use Rattle.model.specs.Calls.{callClaim, callReport, callTotal};
-ghost use Rattle.model.specs.Document01.{document01};
 ghost use Rattle.model.specs.Ledger.{accept};
-ghost use Rattle.layout.specs.Layout.{ledgerOf};
-ghost use Rattle.layout.specs.PackedLedger.{packedLayout};
-ghost use Rattle.layout.specs.Theorems.{packedMachine};
-ghost use Rattle.ledger.specs.Rows.{Searched};
+ghost use Rattle.layout.specs.Present.{rules, facts, machine, Searched};
 
 // How many ticks a penny has.
 const TICKS_PER_PENNY: u64 = 10000;
@@ -21,7 +17,7 @@ const TICKS_PER_PENNY: u64 = 10000;
 // Answers floor(due / 10,000) minus the pence claimed before, and due modulo 10,000. The header then holds one claim more and the pence
 // claimed.
 pub fn claim(ledger: &mut [u8]) -> Answer
-    ensures { λ r. ⌜ (r ≡ packedMachine .answer (now (ledger .entry)) callClaim) × (now (ledger .exit) ≡ packedMachine .step (now (ledger .entry)) callClaim) ⌝ }
+    ensures { λ r. ⌜ (r ≡ machine .answer (now (ledger .entry)) callClaim) × (now (ledger .exit) ≡ machine .step (now (ledger .entry)) callClaim) ⌝ }
 {
     let Checked::WellFormed { rows: _, due } = check(ledger) else {
         return Answer::Refused(2);
@@ -44,7 +40,7 @@ pub fn claim(ledger: &mut [u8]) -> Answer
 // The answer of a report that nothing turns down: the sums over the held rows of the contract.
 fn accepted_report(ledger: &[u8], rows: usize, contract: u32) -> Answer
     requires { ⌜ Searched (now ledger) rows ⌝ }
-    ensures { λ r. ⌜ r ≡ accept document01 (ledgerOf document01 packedLayout (now (ledger .entry))) (callReport contract) .answers ⌝ }
+    ensures { λ r. ⌜ r ≡ accept rules (facts (now (ledger .entry))) (callReport contract) .answers ⌝ }
 {
     let mut count: u32 = 0;
     let mut kwh: u64 = 0;
@@ -69,7 +65,7 @@ fn accepted_report(ledger: &[u8], rows: usize, contract: u32) -> Answer
 
 // Answers the rows, kWh and due of the contract. It changes no byte.
 pub fn report(ledger: &[u8], contract: u32) -> Answer
-    ensures { λ r. ⌜ r ≡ packedMachine .answer (now (ledger .entry)) (callReport contract) ⌝ }
+    ensures { λ r. ⌜ r ≡ machine .answer (now (ledger .entry)) (callReport contract) ⌝ }
 {
     let Checked::WellFormed { rows, due: _ } = check(ledger) else {
         return Answer::Refused(2);
@@ -85,7 +81,7 @@ pub fn report(ledger: &[u8], contract: u32) -> Answer
 
 // Answers due, and the unclaimed amount: due minus 10,000 times the pence claimed. It changes no byte.
 pub fn total(ledger: &[u8]) -> Answer
-    ensures { λ r. ⌜ r ≡ packedMachine .answer (now (ledger .entry)) callTotal ⌝ }
+    ensures { λ r. ⌜ r ≡ machine .answer (now (ledger .entry)) callTotal ⌝ }
 {
     let Checked::WellFormed { rows: _, due } = check(ledger) else {
         return Answer::Refused(2);

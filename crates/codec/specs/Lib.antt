@@ -1,3 +1,2 @@
 -- What a slot's own bytes hold, and the widths of fields.
-pub mod Slots
 pub mod Widths

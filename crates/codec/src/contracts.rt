@@ -11,7 +11,7 @@ ghost use Rattle.fields.specs.Fields.{Fit};
 ghost use Rattle.records.specs.Slots.{slotOk};
 ghost use Rattle.layout.specs.PackedLedger.{contractKind, rangesOf};
 ghost use Rattle.layout.specs.Offsets.{contractLength};
-ghost use Rattle.codec.specs.Slots.{slotNumbers, isTaken, recordIn, recordBytes};
+ghost use Rattle.records.specs.OneSlot.{slotNumbers, isTaken, recordIn, recordBytes};
 
 // Whether a contract's slot is open.
 pub fn is_open(s: &[u8]) -> bool

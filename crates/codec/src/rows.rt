@@ -14,7 +14,7 @@ ghost use Rattle.fields.specs.Fields.{Fit};
 ghost use Rattle.records.specs.Slots.{blank};
 ghost use Rattle.layout.specs.PackedLedger.{rowKind};
 ghost use Rattle.layout.specs.Offsets.{rowLength};
-ghost use Rattle.codec.specs.Slots.{isTaken, recordIn, recordBytes};
+ghost use Rattle.records.specs.OneSlot.{isTaken, recordIn, recordBytes, IsPacked};
 
 // The widths of the fields, in bits.
 const CONTRACT_BITS: usize = 6;
@@ -116,7 +116,7 @@ pub fn pack_row(s: &mut [u8], row: Row)
 
 // Writes the amount of the row that a slot holds.
 pub fn put_amount(s: &mut [u8], amount: u64)
-    requires { ⌜ (length (now s) ≡ rowLength) × ((isTaken rowKind (now s) ≡ true) × (amount < 2 ^ 50)) ⌝ }
+    requires { ⌜ (length (now s) ≡ rowLength) × (IsPacked rowKind (now s) × (amount < 2 ^ 50)) ⌝ }
     ensures { λ _. ⌜ now (s .exit) ≡ recordBytes rowKind (withAmount (recordIn rowKind (now (s .entry))) amount) ⌝ }
 {
     fields::put_window(s, AMOUNT_WINDOW, AMOUNT_AT, AMOUNT_BITS, amount);

@@ -1,7 +1,7 @@
 -- What an accepted cert writes, leaves and answers. Assumes nothing.
 use mathlib.Core.Path.{_≡_, sym, ap, ap₂, _∙_, subst}
 use mathlib.Core.Bool.{true}
-use mathlib.Core.List.{List, map}
+use mathlib.Core.List.{[], List, map}
 use Prim.Native.Nat.{ℕ, _+_, _*_, _^_, _<_}
 use native.Mathlib.Omega.{arith}
 use lib.IntN.{ℤ, subℕ}
@@ -15,17 +15,18 @@ use Rattle.model.specs.Codes.{certify}
 use Rattle.model.specs.Contracts.{contractAt, isOpen}
 use Rattle.model.specs.Calls.{Call, callCert}
 use Rattle.model.specs.Rules.{refusal}
-use Rattle.model.specs.Document01.{document01}
 use Rattle.model.specs.Ledger.{Ledger, view, due, withRows, rerated, accept}
 use Rattle.model.proofs.RulesLaws.{Certified as Accepted}
 use Rattle.model.proofs.Document01.{document01-laws}
-use Rattle.layout.specs.Layout.{contractsIn, ledgerOf, bytesOf}
-use Rattle.layout.specs.PackedLedger.{contractKind, packedLayout}
+use Rattle.layout.specs.Layout.{ledgerOf}
+use Rattle.layout.specs.PackedLedger.{contractKind}
 use Rattle.layout.specs.Offsets.{firstContract, contractLength, contractCount}
 use Rattle.layout.proofs.PackedLedger.{packed-laws}
-use Rattle.codec.specs.Slots.{recordBytes}
+use Rattle.records.specs.OneSlot.{recordBytes}
 use Rattle.edits.proofs.PackedChanges.{written-contract}
-use Rattle.ledger.proofs.Machine.{Answers, Sound, machine-accepted}
+use Rattle.layout.proofs.Present.{Answers, Sound, present}
+use Rattle.layout.proofs.Machine.{machine-accepted}
+use Rattle.layout.specs.Present.{rules, facts, contracts, bytes}
 use Rattle.contract_calls.specs.declared.rerating.Rerated.{Rerated}
 use Rattle.contract_calls.specs.Rerating.{newAmount, rowsRerated}
 use Rattle.contract_calls.proofs.RowsRerating.{new-sum-low, old-sum-low}
@@ -35,27 +36,27 @@ module _ (b : List ℕ) (contract class effective : ℕ) where
   call = callCert contract class effective
 
   abbrev l : Ledger
-  l = ledgerOf document01 packedLayout b
+  l = facts b
 
   abbrev certified : Contract
   certified = certify (contractAt (l .contracts) contract) class effective
 
-  module _ (accepted : refusal document01 (view l) call ≡ 0) where
-    facts : Accepted document01 (view l) contract class effective
-    facts = document01-laws .certs (view l) contract class effective accepted
+  module _ (accepted : refusal rules (view l) call ≡ 0) where
+    taken : Accepted rules (view l) contract class effective
+    taken = document01-laws .certs (view l) contract class effective [] accepted
 
     pub certified-number : contract < contractCount
-    certified-number = facts .number
+    certified-number = taken .number
 
-    pub certified-open : isOpen (contractsIn document01 packedLayout b) contract ≡ true
+    pub certified-open : isOpen (contracts b) contract ≡ true
     unfolding view ledgerOf
-    certified-open = facts .isOpened
+    certified-open = taken .isOpened
 
     module _ (rows sum : ℕ) (s : Sound b rows sum) (terms : Contract) (made : terms ≡ certified) where
       pub certified-fits : Fit (contractKind .widths) (contractKind .values terms)
       unfolding view
       certified-fits =
-          let ranges = facts .ranges (contractAt (l .contracts) contract) (s .facts .contracts contract (facts .isOpened)) in
+          let ranges = taken .ranges (contractAt (l .contracts) contract) (s .facts .contracts contract (taken .isOpened)) in
           subst (λ (k : Contract). Fit (contractKind .widths) (contractKind .values k)) (sym made)
           (packed-laws .contract (l .territory) .fits certified (packed-laws .ranges (l .territory) certified ∙ ranges))
 
@@ -63,25 +64,25 @@ module _ (b : List ℕ) (contract class effective : ℕ) where
       pub sums-low : (r : Rerated) → r ≡ rowsRerated contract terms (l .rows) → (r .due < 2 ^ 62) × (sum < 2 ^ 62)
       unfolding rowsRerated
       sums-low r e =
-          let new : r .due ≡ total (newAmount contract terms) (l .rows) = ap (λ (y : Rerated). y .due) e ∙ total-map (λ x. x .amount) (rerated document01 contract terms) (l .rows) in
+          let new : r .due ≡ total (newAmount contract terms) (l .rows) = ap (λ (y : Rerated). y .due) e ∙ total-map (λ x. x .amount) (rerated rules contract terms) (l .rows) in
           (omega (arith, new-sum-low b (s .formed) contract terms), omega (arith, s .total, old-sum-low b (s .formed)))
 
       -- the rows re-rated, and then the contract written
       pub cert-answers : (r : Rerated) (rated after : List ℕ) (change : ℤ) → r ≡ rowsRerated contract terms (l .rows)
-          → rated ≡ bytesOf document01 packedLayout (withRows l (map (rerated document01 contract terms) (l .rows)))
+          → rated ≡ bytes (withRows l (map (rerated rules contract terms) (l .rows)))
           → after ≡ replaceAt (firstContract + contract * contractLength) (recordBytes contractKind terms) rated
           → change ≡ subℕ (r .due) sum → Answers b call (Certified change (r .changed)) after
       unfolding accept rowsRerated
       cert-answers r rated after change e h w d =
-          let a = machine-accepted b call (s .formed) accepted in
+          let a = machine-accepted present b call (s .formed) accepted in
           let again : r ≡ rowsRerated contract certified (l .rows) = e ∙ ap (λ (k : Contract). rowsRerated contract k (l .rows)) made in
-          let held = h ∙ ap (λ (k : Contract). bytesOf document01 packedLayout (withRows l (map (rerated document01 contract k) (l .rows)))) made in
-          let net : change ≡ subℕ (total (λ x. x .amount) (map (rerated document01 contract certified) (l .rows))) (due l) =
+          let held = h ∙ ap (λ (k : Contract). bytes (withRows l (map (rerated rules contract k) (l .rows)))) made in
+          let net : change ≡ subℕ (total (λ x. x .amount) (map (rerated rules contract certified) (l .rows))) (due l) =
           d ∙ ap₂ subℕ (ap (λ (y : Rerated). y .due) again) (s .total) in
           record {
             answered = a .answered ∙ sym (ap₂ Certified net (ap (λ (y : Rerated). y .changed) again));
             left =
                 a .left
-                ∙ sym (written-contract (withRows l (map (rerated document01 contract certified) (l .rows))) rated after held contract certified certified-number
+                ∙ sym (written-contract (withRows l (map (rerated rules contract certified) (l .rows))) rated after held contract certified certified-number
                 (w ∙ ap (λ (k : Contract). replaceAt (firstContract + contract * contractLength) (recordBytes contractKind k) rated) made));
           }

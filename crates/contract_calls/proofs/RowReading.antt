@@ -14,31 +14,30 @@ use Rattle.records.specs.Slots.{whole, recordFields, slotOut}
 use Rattle.records.specs.Edits.{replaceAt}
 use Rattle.records.proofs.Pack.{unpack-pack}
 use Rattle.model.specs.declared.Row.{Row}
-use Rattle.model.specs.Document01.{document01}
 use Rattle.model.specs.Ledger.{Ledger, withRows}
-use Rattle.layout.specs.Layout.{rowCount, bytesOf}
-use Rattle.layout.specs.PackedLedger.{rowKind, packedLayout}
+use Rattle.layout.specs.Layout.{rowCount}
+use Rattle.layout.specs.PackedLedger.{rowKind}
 use Rattle.layout.specs.Offsets.{ledgerLength, firstRow, rowLength}
 use Rattle.layout.proofs.PackedLedger.{packed-laws}
-use Rattle.codec.specs.Slots.{slotNumbers, isTaken, recordBytes}
+use Rattle.records.specs.OneSlot.{slotNumbers, slotAt, recordIn, recordBytes, IsPacked}
 use Rattle.codec.proofs.WholeSlots.{whole-fits}
 use Rattle.edits.proofs.PackedChanges.{length-row, replaced-row}
-use Rattle.ledger.specs.Check.{rowSlotAt}
-use Rattle.ledger.specs.Rows.{rowAt}
+use Rattle.layout.specs.Present.{rowAt, bytes}
+use Rattle.layout.proofs.Lawful.{offsets}
 
 module _ (l : Ledger) (i : ℕ) (d : Row) (inside : i < length (l .rows)) (most : length (l .rows) ≤ rowCount) where
   abbrev x : Row
   x = getD (l .rows) i d
 
   abbrev b : List ℕ
-  b = bytesOf document01 packedLayout l
+  b = bytes l
 
   abbrev at : ℕ
   at = firstRow + i * rowLength
 
   -- writing the row that is there changes nothing
   rewritten : replaceAt at (recordBytes rowKind x) b ≡ b
-  rewritten = replaced-row l b _ refl i x inside most refl ∙ ap (λ (xs : List Row). bytesOf document01 packedLayout (withRows l xs)) (set-getD (l .rows) i d)
+  rewritten = replaced-row l b _ refl i x inside most refl ∙ ap (λ (xs : List Row). bytes (withRows l xs)) (set-getD (l .rows) i d)
 
   slot-bytes : length b ≡ ledgerLength → take rowLength (drop at b) ≡ recordBytes rowKind x
   unfolding replaceAt
@@ -50,7 +49,7 @@ module _ (l : Ledger) (i : ℕ) (d : Row) (inside : i < length (l .rows)) (most 
       ∙ ap (take rowLength) (drop-at (take at b) (s ++ rest) at (length-take-le at b h)) ∙ take-at s rest rowLength (length-row x)
 
   pub row-read : length b ≡ ledgerLength → Fit (rowKind .widths) (rowKind .values x) → rowAt b i ≡ x
-  unfolding rowAt rowSlotAt slotNumbers recordBytes slotOut
+  unfolding Rattle.layout.specs.Check.rowAt slotAt offsets slotNumbers recordBytes slotOut
   row-read n f =
       ap (λ (s : List ℕ). rowKind .of (recordFields rowKind (unpack (whole rowKind) s))) (slot-bytes n)
       ∙ ap (λ (v : List ℕ). rowKind .of (recordFields rowKind v)) (unpack-pack (whole rowKind) (slotOut rowKind (some x)) aligned (whole-fits rowKind x f))
@@ -58,9 +57,7 @@ module _ (l : Ledger) (i : ℕ) (d : Row) (inside : i < length (l .rows)) (most 
       aligned : WholeBytes (whole rowKind)
       aligned = packed-laws .row (l .contracts) .aligned
 
-  -- the slot is held
-  pub row-taken : length b ≡ ledgerLength → Fit (rowKind .widths) (rowKind .values x) → isTaken rowKind (take rowLength (drop at b)) ≡ true
-  unfolding isTaken slotNumbers recordBytes slotOut
-  row-taken n f =
-      ap (λ (s : List ℕ). not (eqb (getD (unpack (whole rowKind) s) 0 0) 0)) (slot-bytes n)
-      ∙ ap (λ (v : List ℕ). not (eqb (getD v 0 0) 0)) (unpack-pack (whole rowKind) (slotOut rowKind (some x)) (packed-laws .row (l .contracts) .aligned) (whole-fits rowKind x f))
+  -- the slot is that of its row
+  pub row-packed : length b ≡ ledgerLength → Fit (rowKind .widths) (rowKind .values x) → IsPacked rowKind (take rowLength (drop at b))
+  unfolding Rattle.layout.specs.Check.rowAt recordIn slotAt offsets
+  row-packed n f = ap (recordBytes rowKind) (row-read n f) ∙ sym (slot-bytes n)

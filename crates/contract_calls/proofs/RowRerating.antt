@@ -11,13 +11,12 @@ use Rattle.rates.specs.declared.Contract.{Contract}
 use Rattle.rates.specs.Rates.{amount}
 use Rattle.rates.proofs.WithinCaps.{amount-bits}
 use Rattle.model.specs.declared.Row.{Row}
-use Rattle.model.specs.Document01.{document01}
 use Rattle.model.specs.Ledger.{withAmount, priced, rerated}
 use Rattle.layout.specs.PackedLedger.{rowKind}
 use Rattle.layout.specs.Offsets.{firstRow, rowLength}
-use Rattle.codec.specs.Slots.{recordIn, recordBytes}
-use Rattle.ledger.specs.Check.{rowSlotAt}
-use Rattle.ledger.specs.Rows.{rowAt}
+use Rattle.records.specs.OneSlot.{slotAt, recordIn, recordBytes}
+use Rattle.layout.specs.Present.{rowAt, rules}
+use Rattle.layout.proofs.Lawful.{offsets}
 use Rattle.contract_calls.specs.declared.rerating.Rerated.{Rerated}
 use Rattle.contract_calls.specs.Rerating.{Ratable, rowRerated, slotRerated}
 
@@ -33,17 +32,17 @@ rated-fits terms x a r e = let f = r .fits in omega (arith, amount-bits terms (x
 pub amount-put : (b after : List ℕ) (i a : ℕ) (x : Row) → x ≡ rowAt b i
     → after ≡ replaceAt (firstRow + i * rowLength) (recordBytes rowKind (withAmount (recordIn rowKind (take rowLength (drop (firstRow + i * rowLength) b))) a)) b
     → after ≡ replaceAt (firstRow + i * rowLength) (recordBytes rowKind (withAmount x a)) b
-unfolding rowAt rowSlotAt recordIn
+unfolding Rattle.layout.specs.Check.rowAt slotAt offsets recordIn
 amount-put b after i a x e w = w ∙ ap (λ (y : Row). replaceAt (firstRow + i * rowLength) (recordBytes rowKind (withAmount y a)) b) (sym e)
 
 module _ (contract : ℕ) (terms : Contract) (x : Row) where
   -- a row of another contract is as it was
-  pub other-row : (x .bill .contract ≡ contract → ⊥) → rerated document01 contract terms x ≡ x
+  pub other-row : (x .bill .contract ≡ contract → ⊥) → rerated rules contract terms x ≡ x
   unfolding rerated
   other-row n = rw (no-eq _ _ n)
 
   -- a row of the contract has its amount under the terms
-  pub own-row : x .bill .contract ≡ contract → (a : ℕ) → a ≡ amount terms (x .bill) → rerated document01 contract terms x ≡ record { bill = x .bill; amount = a }
+  pub own-row : x .bill .contract ≡ contract → (a : ℕ) → a ≡ amount terms (x .bill) → rerated rules contract terms x ≡ record { bill = x .bill; amount = a }
   unfolding rerated priced
   own-row e a s = rw (yes-eq _ _ e) (ap (λ (n : ℕ). record { bill = x .bill; amount = n }) (sym s))
 
@@ -57,7 +56,7 @@ module _ (contract : ℕ) (terms : Contract) (x : Row) where
     row-kept n = (rw (ap (λ (y : Row). y .amount) (other-row n), yes-eq (x .amount) (x .amount) refl), rw (no-eq _ _ n))
 
     module _ (own : x .bill .contract ≡ contract) (a : ℕ) (rated : a ≡ amount terms (x .bill)) (after : List ℕ) (written : after ≡ replaceAt (firstRow + i * rowLength) (recordBytes rowKind (record { bill = x .bill; amount = a })) b) where
-      own-amount : rerated document01 contract terms x .amount ≡ a
+      own-amount : rerated rules contract terms x .amount ≡ a
       own-amount = ap (λ (y : Row). y .amount) (own-row own a rated)
 
       own-slot : after ≡ slotRerated contract terms i x b

@@ -17,24 +17,24 @@ use Rattle.rates.specs.declared.Contract.{Contract}
 use Rattle.rates.specs.Rates.{amount}
 use Rattle.model.specs.declared.Row.{Row}
 use Rattle.model.specs.Contracts.{Contracts, contractAt}
-use Rattle.model.specs.Document01.{document01}
 use Rattle.model.specs.Ledger.{Ledger, due, withRows, rerated}
 use Rattle.model.specs.RowNumbers.{rowOfNumbers}
 use Rattle.model.specs.WellFormed.{RowOk}
 use Rattle.model.proofs.Document01.{bill-test}
-use Rattle.layout.specs.Layout.{rowCount, wellFormed, ledgerOf, bytesOf}
-use Rattle.layout.specs.PackedLedger.{rowKind, packedLayout}
+use Rattle.layout.specs.Layout.{rowCount, wellFormed}
+use Rattle.layout.specs.PackedLedger.{rowKind}
 use Rattle.layout.specs.Offsets.{ledgerLength, firstRow, rowLength}
 use Rattle.layout.proofs.LayoutLaws.{row-test}
 use Rattle.layout.proofs.PackedLedger.{packed-laws, packed-format, round-trips}
-use Rattle.codec.specs.Slots.{isTaken, recordBytes}
+use Rattle.records.specs.OneSlot.{recordBytes, IsPacked}
 use Rattle.edits.proofs.PackedChanges.{replaced-row}
-use Rattle.ledger.specs.Rows.{rowAt}
-use Rattle.ledger.proofs.HeldRows.{formed-length, rows-most}
+use Rattle.layout.specs.Present.{rowAt, rules, layout, facts, bytes}
+use Rattle.layout.proofs.Present.{formed-length, present}
+use Rattle.layout.proofs.HeldRows.{rows-most}
 use Rattle.contract_calls.specs.declared.rerating.Rerated.{Rerated}
 use Rattle.contract_calls.specs.Rerating.{Ratable, RatableSlot, newAmount, amountChanges, rowRerated, rowsRerated, slotRerated}
 use Rattle.contract_calls.proofs.FirstMapped.{firstMapped, first-all, length-first, first-at, first-next, total-next, total-end, all-at}
-use Rattle.contract_calls.proofs.RowReading.{row-read, row-taken}
+use Rattle.contract_calls.proofs.RowReading.{row-read, row-packed}
 use Rattle.contract_calls.proofs.RowRerating.{rated-fits, other-row, own-row}
 
 abbrev noRow : Row
@@ -42,30 +42,30 @@ noRow = rowOfNumbers []
 
 -- ---- the rows of a well-formed ledger
 
-ratable : (cs : Contracts) (x : Row) → RowOk document01 cs x → Ratable x
+ratable : (cs : Contracts) (x : Row) → RowOk rules cs x → Ratable x
 ratable cs x o =
     let q = bill-test (contractAt cs (x .bill .contract)) (x .bill) (o .ranges) in
-    record { fits = packed-laws .row cs .fits x (row-test document01 cs x o); kwh = le-yes (x .bill .kwh) 100000000 (q 1); supply = le-yes (x .bill .supply) 999999 (q 2) }
+    record { fits = packed-laws .row cs .fits x (row-test rules cs x o); kwh = le-yes (x .bill .kwh) 100000000 (q 1); supply = le-yes (x .bill .supply) 999999 (q 2) }
 
 -- after i of the rows of the ledger b₀: the bytes, the sum of the amounts and the number that changed
 pub record Passed (b₀ : List ℕ) (contract : ℕ) (terms : Contract) (i : ℕ) (b : List ℕ) (due changed : ℕ) : Type 0 where
   pub long : length b ≡ ledgerLength
-  pub bytes : b ≡ bytesOf document01 packedLayout (withRows (ledgerOf document01 packedLayout b₀) (firstMapped (rerated document01 contract terms) i (ledgerOf document01 packedLayout b₀ .rows)))
-  pub amounts : due + total (newAmount contract terms) (drop i (ledgerOf document01 packedLayout b₀ .rows)) ≡ total (newAmount contract terms) (ledgerOf document01 packedLayout b₀ .rows)
-  pub changes : changed + count (amountChanges contract terms) (drop i (ledgerOf document01 packedLayout b₀ .rows)) ≡ count (amountChanges contract terms) (ledgerOf document01 packedLayout b₀ .rows)
+  pub bytes : b ≡ bytes (withRows (facts b₀) (firstMapped (rerated rules contract terms) i (facts b₀ .rows)))
+  pub amounts : due + total (newAmount contract terms) (drop i (facts b₀ .rows)) ≡ total (newAmount contract terms) (facts b₀ .rows)
+  pub changes : changed + count (amountChanges contract terms) (drop i (facts b₀ .rows)) ≡ count (amountChanges contract terms) (facts b₀ .rows)
 
-module _ (b₀ : List ℕ) (formed : wellFormed document01 packedLayout b₀ ≡ true) where
+module _ (b₀ : List ℕ) (formed : wellFormed rules layout b₀ ≡ true) where
   abbrev l : Ledger
-  l = ledgerOf document01 packedLayout b₀
+  l = facts b₀
 
   abbrev xs : List Row
   xs = l .rows
 
   ratables : All Ratable xs
-  ratables = all-map (RowOk document01 (l .contracts)) Ratable (ratable (l .contracts)) xs (packed-format .unpacked b₀ formed .rows)
+  ratables = all-map (RowOk rules (l .contracts)) Ratable (ratable (l .contracts)) xs (packed-format .unpacked b₀ formed .rows)
 
   sum-low : (w : Row → ℕ) → ((x : Row) → Ratable x → w x ≤ 2 ^ 50) → total w xs ≤ 1024 * 2 ^ 50
-  sum-low w h = omega (arith, rows-most b₀ formed, total-most w (2 ^ 50) xs (all-map Ratable _ h xs ratables))
+  sum-low w h = omega (arith, rows-most present b₀ formed, total-most w (2 ^ 50) xs (all-map Ratable _ h xs ratables))
 
   pub old-sum-low : due l ≤ 1024 * 2 ^ 50
   unfolding due
@@ -73,7 +73,7 @@ module _ (b₀ : List ℕ) (formed : wellFormed document01 packedLayout b₀ ≡
 
   module _ (contract : ℕ) (terms : Contract) where
     abbrev f : Row → Row
-    f = rerated document01 contract terms
+    f = rerated rules contract terms
 
     pub none-passed : Passed b₀ contract terms 0 b₀ 0 0
     none-passed = record { long = formed-length b₀ formed; bytes = sym (round-trips .bytes b₀ formed); amounts = omega arith; changes = omega arith }
@@ -90,7 +90,7 @@ module _ (b₀ : List ℕ) (formed : wellFormed document01 packedLayout b₀ ≡
 
     pub changes-low : count (amountChanges contract terms) xs ≤ 1024
     changes-low =
-        omega (arith, rows-most b₀ formed, total-most (λ x. cond (amountChanges contract terms x) 1 0) 1 xs (all-true _ (λ x. one (amountChanges contract terms x)) xs))
+        omega (arith, rows-most present b₀ formed, total-most (λ x. cond (amountChanges contract terms x) 1 0) 1 xs (all-true _ (λ x. one (amountChanges contract terms x)) xs))
       where
         one : (c : Bool) → cond c 1 0 ≤ 1
         one true = omega arith
@@ -109,7 +109,7 @@ module _ (b₀ : List ℕ) (formed : wellFormed document01 packedLayout b₀ ≡
       within = omega (arith, length-first f i xs)
 
       few : length (passed .rows) ≤ rowCount
-      few = omega (arith, length-first f i xs, rows-most b₀ formed)
+      few = omega (arith, length-first f i xs, rows-most present b₀ formed)
 
       here : getD (passed .rows) i noRow ≡ x
       here = first-at f i xs noRow
@@ -120,7 +120,7 @@ module _ (b₀ : List ℕ) (formed : wellFormed document01 packedLayout b₀ ≡
       next-fits : Fit (rowKind .widths) (rowKind .values (getD (passed .rows) i noRow))
       next-fits = subst (λ (y : Row). Fit (rowKind .widths) (rowKind .values y)) (sym here) (next-ratable .fits)
 
-      next-long : length (bytesOf document01 packedLayout passed) ≡ ledgerLength
+      next-long : length (bytes passed) ≡ ledgerLength
       next-long = ap length (sym (p .bytes)) ∙ p .long
 
       next-row : rowAt b i ≡ x
@@ -128,21 +128,21 @@ module _ (b₀ : List ℕ) (formed : wellFormed document01 packedLayout b₀ ≡
 
       pub next-slot : RatableSlot b i
       next-slot = record {
-        taken = ap (λ (y : List ℕ). isTaken rowKind (take rowLength (drop (firstRow + i * rowLength) y))) (p .bytes) ∙ row-taken passed i noRow within few next-long next-fits;
+        packed = subst (λ (y : List ℕ). IsPacked rowKind (take rowLength (drop (firstRow + i * rowLength) y))) (sym (p .bytes)) (row-packed passed i noRow within few next-long next-fits);
         ratable = subst Ratable (sym next-row) next-ratable;
       }
 
-      next-bytes : (d : List ℕ) → d ≡ slotRerated contract terms i x b → d ≡ bytesOf document01 packedLayout (withRows l (firstMapped f (i + 1) xs))
+      next-bytes : (d : List ℕ) → d ≡ slotRerated contract terms i x b → d ≡ bytes (withRows l (firstMapped f (i + 1) xs))
       unfolding slotRerated
-      next-bytes d e = go (eqb (x .bill .contract) contract) refl e ∙ ap (λ (ys : List Row). bytesOf document01 packedLayout (withRows l ys)) (first-next f i xs noRow inside)
+      next-bytes d e = go (eqb (x .bill .contract) contract) refl e ∙ ap (λ (ys : List Row). bytes (withRows l ys)) (first-next f i xs noRow inside)
         where
           go : (own : Bool) → eqb (x .bill .contract) contract ≡ own → d ≡ cond own (replaceAt (firstRow + i * rowLength) (recordBytes rowKind (f x)) b) b
-              → d ≡ bytesOf document01 packedLayout (withRows l (set (firstMapped f i xs) i (f x)))
+              → d ≡ bytes (withRows l (set (firstMapped f i xs) i (f x)))
           go true o w = replaced-row passed b d (p .bytes) i (f x) within few w
           go false o w =
               let same : set (firstMapped f i xs) i (f x) ≡ firstMapped f i xs =
               ap (set (firstMapped f i xs) i) (other-row contract terms x (eq-no _ _ o) ∙ sym here) ∙ set-getD (firstMapped f i xs) i noRow in
-              w ∙ p .bytes ∙ ap (λ (ys : List Row). bytesOf document01 packedLayout (withRows l ys)) (sym same)
+              w ∙ p .bytes ∙ ap (λ (ys : List Row). bytes (withRows l ys)) (sym same)
 
       pub row-passed : (r : Rerated) (d : List ℕ) → r ≡ rowRerated contract terms (rowAt b i) → d ≡ slotRerated contract terms i (rowAt b i) b → length d ≡ ledgerLength
           → Passed b₀ contract terms (i + 1) d (due + r .due) (changed + r .changed)
@@ -162,7 +162,7 @@ module _ (b₀ : List ℕ) (formed : wellFormed document01 packedLayout b₀ ≡
     -- ---- all rows
 
     pub all-passed : (i : ℕ) (b : List ℕ) (due changed : ℕ) → i ≡ length xs → Passed b₀ contract terms i b due changed
-        → (record { due = due; changed = changed } ≡ rowsRerated contract terms xs) × (b ≡ bytesOf document01 packedLayout (withRows l (map f xs)))
+        → (record { due = due; changed = changed } ≡ rowsRerated contract terms xs) × (b ≡ bytes (withRows l (map f xs)))
     unfolding rowsRerated
     all-passed i b due changed e p =
         let none : total (newAmount contract terms) (drop i xs) ≡ 0 = total-end (newAmount contract terms) i xs (omega arith) in
@@ -170,5 +170,5 @@ module _ (b₀ : List ℕ) (formed : wellFormed document01 packedLayout b₀ ≡
         let a : due ≡ total (newAmount contract terms) xs = omega (arith, p .amounts) in
         let k : changed ≡ count (amountChanges contract terms) xs = omega (arith, p .changes) in (
           ap₂ (λ (m n : ℕ). record { due = m; changed = n }) (a ∙ sym (total-map (λ y. y .amount) f xs)) k,
-          p .bytes ∙ ap (λ (ys : List Row). bytesOf document01 packedLayout (withRows l ys)) (ap (λ (n : ℕ). firstMapped f n xs) e ∙ first-all f xs),
+          p .bytes ∙ ap (λ (ys : List Row). bytes (withRows l ys)) (ap (λ (n : ℕ). firstMapped f n xs) e ∙ first-all f xs),
         )

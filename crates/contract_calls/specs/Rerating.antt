@@ -10,12 +10,11 @@ use Rattle.fields.specs.Fields.{Fit}
 use Rattle.records.specs.Edits.{replaceAt}
 use Rattle.rates.specs.declared.Contract.{Contract}
 use Rattle.model.specs.declared.Row.{Row}
-use Rattle.model.specs.Document01.{document01}
 use Rattle.model.specs.Ledger.{ofContract, rerated}
 use Rattle.layout.specs.PackedLedger.{rowKind}
 use Rattle.layout.specs.Offsets.{firstRow, rowLength}
-use Rattle.codec.specs.Slots.{isTaken, recordBytes}
-use Rattle.ledger.specs.Rows.{rowAt}
+use Rattle.records.specs.OneSlot.{recordBytes, IsPacked}
+use Rattle.layout.specs.Present.{rowAt, rules}
 use Rattle.contract_calls.specs.declared.rerating.Rerated.{Rerated}
 
 -- a row whose numbers fit their fields, and whose kWh and S are low enough that its amount fits under any contract
@@ -26,13 +25,13 @@ pub record Ratable (x : Row) : Type 0 where
 
 -- a slot that holds such a row
 pub record RatableSlot (b : List ℕ) (i : ℕ) : Type 0 where
-  pub taken : isTaken rowKind (take rowLength (drop (firstRow + i * rowLength) b)) ≡ true
+  pub packed : IsPacked rowKind (take rowLength (drop (firstRow + i * rowLength) b))
   pub ratable : Ratable (rowAt b i)
 
 module _ (contract : ℕ) (terms : Contract) where
   -- a row's amount under the terms, where it is a row of the contract
   abbrev pub newAmount : Row → ℕ
-  newAmount x = rerated document01 contract terms x .amount
+  newAmount x = rerated rules contract terms x .amount
 
   -- whether a row's amount changes
   abbrev pub amountChanges : Row → Bool
@@ -44,8 +43,8 @@ module _ (contract : ℕ) (terms : Contract) where
 
   -- of all rows the sum of their new amounts, and how many are others
   unfoldable pub rowsRerated : List Row → Rerated
-  rowsRerated xs = record { due = total (λ x. x .amount) (map (rerated document01 contract terms) xs); changed = count amountChanges xs }
+  rowsRerated xs = record { due = total (λ x. x .amount) (map (rerated rules contract terms) xs); changed = count amountChanges xs }
 
   -- the bytes with the row x, which slot i holds, re-rated
   unfoldable pub slotRerated : ℕ → Row → List ℕ → List ℕ
-  slotRerated i x b = cond (ofContract contract x) (replaceAt (firstRow + i * rowLength) (recordBytes rowKind (rerated document01 contract terms x)) b) b
+  slotRerated i x b = cond (ofContract contract x) (replaceAt (firstRow + i * rowLength) (recordBytes rowKind (rerated rules contract terms x)) b) b

@@ -7,12 +7,10 @@ use lib.ListN.{length}
 use Rattle.model.specs.declared.Answer.{Answer}
 use Rattle.model.specs.declared.Answer.the-variants.{Refused, Done}
 use Rattle.model.specs.Calls.{_if_, firstOf}
-use Rattle.model.specs.Document01.{document01}
 use Rattle.model.specs.Ledger.{fresh}
 use Rattle.model.specs.Format.{unlessRefused}
-use Rattle.layout.specs.Layout.{bytesOf}
-use Rattle.layout.specs.PackedLedger.{packedLayout}
 use Rattle.layout.specs.Offsets.{ledgerLength}
+use Rattle.layout.specs.Present.{bytes}
 
 -- the number that turns a start down: 2, the buffer isn't 18,760 bytes; 6, the territory code has no meaning
 unfoldable pub startRefusal : List ℕ → (territory : ℕ) → ℕ
@@ -28,4 +26,4 @@ startAnswer b territory = doneUnlessRefused (startRefusal b territory)
 
 -- the bytes left: a fresh ledger, with which a history begins, or the buffer as it was
 unfoldable pub startBytes : List ℕ → (territory : ℕ) → List ℕ
-startBytes b territory = unlessRefused (startRefusal b territory) (bytesOf document01 packedLayout (fresh territory)) b
+startBytes b territory = unlessRefused (startRefusal b territory) (bytes (fresh territory)) b

@@ -1,14 +1,14 @@
 // The calls that start a ledger, open a contract and replace a contract's certificate.
 mod contracts;
-mod refusals;
+pub mod refusals;
 mod rerating;
 
 use contracts::certify;
 use contracts::opening;
 use edits::fresh;
 use edits::write_contract;
+use layout::Checked;
 use layout::LEDGER_LENGTH;
-use ledger::check::Checked;
 use ledger::check::check;
 use ledger::contracts::contract_at;
 use model::Answer;
@@ -18,7 +18,7 @@ use rerating::rerate_rows;
 use signed::difference;
 ghost use mathlib.Core.Path.{_≡_};
 ghost use Rattle.model.specs.Calls.{callOpen, callCert};
-ghost use Rattle.layout.specs.Theorems.{packedMachine};
+ghost use Rattle.layout.specs.Present.{machine};
 ghost use Rattle.contract_calls.specs.Start.{startAnswer, startBytes};
 
 // start: a fresh ledger over a buffer of any contents.
@@ -44,7 +44,7 @@ pub fn open_contract(
     price_fix_day: u32,
     entry_day: u32,
 ) -> Answer
-    ensures { λ r. ⌜ (r ≡ packedMachine .answer (now (ledger .entry)) (callOpen contract fuel kind «price_fix_day» «entry_day»)) × (now (ledger .exit) ≡ packedMachine .step (now (ledger .entry)) (callOpen contract fuel kind «price_fix_day» «entry_day»)) ⌝ }
+    ensures { λ r. ⌜ (r ≡ machine .answer (now (ledger .entry)) (callOpen contract fuel kind «price_fix_day» «entry_day»)) × (now (ledger .exit) ≡ machine .step (now (ledger .entry)) (callOpen contract fuel kind «price_fix_day» «entry_day»)) ⌝ }
 {
     let Checked::WellFormed { rows: _, due: _ } = check(ledger) else {
         return Answer::Refused(2);
@@ -60,7 +60,7 @@ pub fn open_contract(
 
 // cert: another certificate in place of the contract's, and the contract's rows re-rated.
 pub fn cert(ledger: &mut [u8], contract: u32, class: u32, effective_day: u32) -> Answer
-    ensures { λ r. ⌜ (r ≡ packedMachine .answer (now (ledger .entry)) (callCert contract class «effective_day»)) × (now (ledger .exit) ≡ packedMachine .step (now (ledger .entry)) (callCert contract class «effective_day»)) ⌝ }
+    ensures { λ r. ⌜ (r ≡ machine .answer (now (ledger .entry)) (callCert contract class «effective_day»)) × (now (ledger .exit) ≡ machine .step (now (ledger .entry)) (callCert contract class «effective_day»)) ⌝ }
 {
     let Checked::WellFormed { rows, due } = check(ledger) else {
         return Answer::Refused(2);

@@ -8,11 +8,9 @@ ghost use mathlib.Core.Path.{_≡_};
 ghost use lib.ListN.{length};
 ghost use Rattle.model.specs.Calls.{callOpen, callCert};
 ghost use Rattle.model.specs.Rules.{refusal};
-ghost use Rattle.model.specs.Document01.{document01};
 ghost use Rattle.model.specs.Ledger.{view};
-ghost use Rattle.layout.specs.Layout.{ledgerOf};
-ghost use Rattle.layout.specs.PackedLedger.{packedLayout};
 ghost use Rattle.layout.specs.Offsets.{ledgerLength};
+ghost use Rattle.layout.specs.Present.{rules, facts};
 
 // The number that turns an open down.
 pub fn refused_open(
@@ -24,7 +22,7 @@ pub fn refused_open(
     entry_day: u32,
 ) -> u32
     requires { ⌜ length (now ledger) ≡ ledgerLength ⌝ }
-    ensures { λ r. ⌜ r ≡ refusal document01 (view (ledgerOf document01 packedLayout (now (ledger .entry)))) (callOpen contract fuel kind «price_fix_day» «entry_day») ⌝ }
+    ensures { λ r. ⌜ r ≡ refusal rules (view (facts (now (ledger .entry)))) (callOpen contract fuel kind «price_fix_day» «entry_day») ⌝ }
 {
     if 63 < contract {
         return 4;
@@ -44,7 +42,7 @@ pub fn refused_open(
 // The number that turns a cert down.
 pub fn refused_cert(ledger: &[u8], contract: u32, class: u32, effective_day: u32) -> u32
     requires { ⌜ length (now ledger) ≡ ledgerLength ⌝ }
-    ensures { λ r. ⌜ r ≡ refusal document01 (view (ledgerOf document01 packedLayout (now (ledger .entry)))) (callCert contract class «effective_day») ⌝ }
+    ensures { λ r. ⌜ r ≡ refusal rules (view (facts (now (ledger .entry)))) (callCert contract class «effective_day») ⌝ }
 {
     if 63 < contract {
         return 4;

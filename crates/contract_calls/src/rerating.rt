@@ -6,12 +6,10 @@ ghost use mathlib.Core.Path.{_≡_};
 ghost use mathlib.Core.List.{map};
 ghost use Prim.Native.Nat.{_<_};
 ghost use lib.ListN.{length};
-ghost use Rattle.model.specs.Document01.{document01};
 ghost use Rattle.model.specs.Ledger.{withRows, rerated};
-ghost use Rattle.layout.specs.Layout.{rowCount, ledgerOf, bytesOf};
-ghost use Rattle.layout.specs.PackedLedger.{packedLayout};
+ghost use Rattle.layout.specs.Layout.{rowCount};
 ghost use Rattle.layout.specs.Offsets.{ledgerLength};
-ghost use Rattle.ledger.specs.Rows.{rowAt, Searched};
+ghost use Rattle.layout.specs.Present.{rowAt, Searched, rules, facts, bytes};
 ghost use Rattle.contract_calls.specs.Rerating.{RatableSlot, rowRerated, rowsRerated, slotRerated};
 
 // What re-rating finds: the sum of the new amounts, and how many of the amounts changed.
@@ -50,7 +48,7 @@ fn rerate_row(b: &mut [u8], i: usize, contract: u32, terms: Contract) -> Rerated
 // Re-rates the rows of the contract.
 pub fn rerate_rows(b: &mut [u8], rows: usize, contract: u32, terms: Contract) -> Rerated
     requires { ⌜ Searched (now b) rows ⌝ }
-    ensures { λ r. ⌜ (r ≡ rowsRerated contract terms (ledgerOf document01 packedLayout (now (b .entry)) .rows)) × (now (b .exit) ≡ bytesOf document01 packedLayout (withRows (ledgerOf document01 packedLayout (now (b .entry))) (map (rerated document01 contract terms) (ledgerOf document01 packedLayout (now (b .entry)) .rows)))) ⌝ }
+    ensures { λ r. ⌜ (r ≡ rowsRerated contract terms (facts (now (b .entry)) .rows)) × (now (b .exit) ≡ bytes (withRows (facts (now (b .entry))) (map (rerated rules contract terms) (facts (now (b .entry)) .rows)))) ⌝ }
 {
     let mut i: usize = 0;
     let mut due: u64 = 0;

@@ -1,2 +1,2 @@
--- That every answer of the calls fits the three numbers that C gets.
-pub mod AnswersFit
+-- What C gets of what is told.
+pub mod Given

@@ -1,20 +1,15 @@
--- The answers whose numbers fit 64 bits with a sign, as all answers of the ledger's calls do. Assumes nothing.
+-- What a function for C gives of a call; the answers whose numbers fit 64 bits with a sign, as all answers of the ledger's calls do. Assumes nothing.
+use mathlib.Core.Path.{_≡_}
+use mathlib.Core.List.{List}
 use Prim.Native.Nat.{ℕ, _<_, _^_}
+use lib.IntN.{ℤ}
 use Rattle.model.specs.declared.Answer.{Answer}
 use Rattle.model.specs.declared.Answer.the-variants.{Refused, Done, Billed, Rebilled, Certified, Cancelled, Claimed, Reported, Totalled}
+use Rattle.model.specs.Calls.{Call, refusalNumber, answerValues}
+use Rattle.layout.specs.Present.{machine}
 
--- a natural number that fits 64 bits with a sign
-abbrev pub FitsSigned : ℕ → Type 0
-FitsSigned n = n < 2 ^ 63
-
--- an answer's numbers that have 64 bits and no sign; its other numbers have a sign or 32 bits
-abbrev pub AnswerFits : Answer → Type 0
-AnswerFits (Refused n) = Unit {0}
-AnswerFits Done = Unit {0}
-AnswerFits (Billed reference rate amount) = FitsSigned rate × FitsSigned amount
-AnswerFits (Rebilled reference rate change) = FitsSigned rate
-AnswerFits (Certified change rows) = Unit {0}
-AnswerFits (Cancelled change) = Unit {0}
-AnswerFits (Claimed pence rest) = Unit {0}
-AnswerFits (Reported rows kwh due) = FitsSigned kwh × FitsSigned due
-AnswerFits (Totalled due unclaimed) = FitsSigned due
+-- a call on a ledger's bytes gives the machine's number and values, and leaves the machine's bytes
+pub record Gives (ledger : List ℕ) (call : Call) (n : ℕ) (vs : List ℤ) (after : List ℕ) : Type 0 where
+  pub number : n ≡ refusalNumber (machine .answer ledger call)
+  pub values : vs ≡ answerValues (machine .answer ledger call)
+  pub left : after ≡ machine .step ledger call

@@ -3,14 +3,21 @@
 mod answers;
 
 use answers::give;
-use answers::give_date;
-use answers::give_day;
-use bill_refusals::request_of;
+use answers::make;
+use calls::told::tell;
+use calls::told::tell_date;
+use calls::told::tell_day;
+use model::Call;
+use model::Request;
 ghost use mathlib.Core.Path.{_≡_};
 ghost use Rattle.calendar.specs.Answers.{dayAnswer, dateAnswer, dayRefusalNumber, dateRefusalNumber, dayAnswerValues, dateAnswerValues};
-ghost use Rattle.model.specs.Calls.{callOpen, callBill, callRebill, callCert, callCancel, callClaim, callReport, callTotal, request, refusalNumber, answerValues};
-ghost use Rattle.layout.specs.Theorems.{packedMachine};
+ghost use Rattle.model.specs.Calls.{asked, requestOf, callOpen, callBill, callCert, callCancel, callClaim, callReport, callTotal, refusalNumber, answerValues};
+ghost use Rattle.layout.specs.Present.{machine};
 ghost use Rattle.contract_calls.specs.Start.{startAnswer, startBytes};
+ghost use Rattle.ebds_c.specs.Answers.{Gives};
+
+// No price book, for the calls that use none.
+const NO_BOOK: [u32; 0] = [];
 
 // start (territory).
 #[no_mangle]
@@ -18,7 +25,7 @@ pub extern "C" fn ebds_start(ledger: &mut [u8], territory: u32, answer: &mut [i6
     ensures { λ r. ⌜ (r ≡ refusalNumber (startAnswer (now (ledger .entry)) territory)) × (now (answer .exit) ≡ answerValues (startAnswer (now (ledger .entry)) territory)) ⌝ }
     ensures { λ _. ⌜ now (ledger .exit) ≡ startBytes (now (ledger .entry)) territory ⌝ }
 {
-    give(contract_calls::start(ledger, territory), answer)
+    give(tell(contract_calls::start(ledger, territory)), answer)
 }
 
 // open (contract, fuel, kind, price-fix day, entry day).
@@ -32,18 +39,16 @@ pub extern "C" fn ebds_open(
     entry_day: u32,
     answer: &mut [i64; 3],
 ) -> u32
-    ensures { λ r. ⌜ (r ≡ refusalNumber (packedMachine .answer (now (ledger .entry)) (callOpen contract fuel kind «price_fix_day» «entry_day»))) × (now (answer .exit) ≡ answerValues (packedMachine .answer (now (ledger .entry)) (callOpen contract fuel kind «price_fix_day» «entry_day»))) ⌝ }
-    ensures { λ _. ⌜ now (ledger .exit) ≡ packedMachine .step (now (ledger .entry)) (callOpen contract fuel kind «price_fix_day» «entry_day») ⌝ }
+    ensures { λ r. ⌜ Gives (now (ledger .entry)) (callOpen contract fuel kind «price_fix_day» «entry_day») r (now (answer .exit)) (now (ledger .exit)) ⌝ }
 {
-    let said = contract_calls::open_contract(
-        ledger,
+    let call = Call::Open {
         contract,
         fuel,
         kind,
         price_fix_day,
         entry_day,
-    );
-    give(said, answer)
+    };
+    make(ledger, &NO_BOOK, call, answer)
 }
 
 // bill (contract, first, last, kWh, S, WAP).
@@ -59,11 +64,17 @@ pub extern "C" fn ebds_bill(
     wap: u32,
     answer: &mut [i64; 3],
 ) -> u32
-    ensures { λ r. ⌜ (r ≡ refusalNumber (packedMachine .answer (now (ledger .entry)) (callBill (request contract first last kwh supply wap (now (book .entry)))))) × (now (answer .exit) ≡ answerValues (packedMachine .answer (now (ledger .entry)) (callBill (request contract first last kwh supply wap (now (book .entry)))))) ⌝ }
-    ensures { λ _. ⌜ now (ledger .exit) ≡ packedMachine .step (now (ledger .entry)) (callBill (request contract first last kwh supply wap (now (book .entry)))) ⌝ }
+    ensures { λ r. ⌜ Gives (now (ledger .entry)) (callBill (requestOf contract first last kwh supply wap) (now (book .entry))) r (now (answer .exit)) (now (ledger .exit)) ⌝ }
 {
-    let numbers = request_of(contract, first, last, kwh, supply, wap);
-    give(bill_calls::bill(ledger, book, numbers), answer)
+    let call = Call::Bill(Request {
+        contract,
+        first,
+        last,
+        kwh,
+        supply,
+        wap,
+    });
+    make(ledger, book, call, answer)
 }
 
 // rebill, same numbers.
@@ -79,11 +90,17 @@ pub extern "C" fn ebds_rebill(
     wap: u32,
     answer: &mut [i64; 3],
 ) -> u32
-    ensures { λ r. ⌜ (r ≡ refusalNumber (packedMachine .answer (now (ledger .entry)) (callRebill (request contract first last kwh supply wap (now (book .entry)))))) × (now (answer .exit) ≡ answerValues (packedMachine .answer (now (ledger .entry)) (callRebill (request contract first last kwh supply wap (now (book .entry)))))) ⌝ }
-    ensures { λ _. ⌜ now (ledger .exit) ≡ packedMachine .step (now (ledger .entry)) (callRebill (request contract first last kwh supply wap (now (book .entry)))) ⌝ }
+    ensures { λ r. ⌜ Gives (now (ledger .entry)) (asked (Call.Rebill (requestOf contract first last kwh supply wap)) (now (book .entry))) r (now (answer .exit)) (now (ledger .exit)) ⌝ }
 {
-    let numbers = request_of(contract, first, last, kwh, supply, wap);
-    give(bill_calls::rebill(ledger, book, numbers), answer)
+    let call = Call::Rebill(Request {
+        contract,
+        first,
+        last,
+        kwh,
+        supply,
+        wap,
+    });
+    make(ledger, book, call, answer)
 }
 
 // cert (contract, class, effective day).
@@ -95,11 +112,16 @@ pub extern "C" fn ebds_cert(
     effective_day: u32,
     answer: &mut [i64; 3],
 ) -> u32
-    ensures { λ r. ⌜ (r ≡ refusalNumber (packedMachine .answer (now (ledger .entry)) (callCert contract class «effective_day»))) × (now (answer .exit) ≡ answerValues (packedMachine .answer (now (ledger .entry)) (callCert contract class «effective_day»))) ⌝ }
-    ensures { λ _. ⌜ now (ledger .exit) ≡ packedMachine .step (now (ledger .entry)) (callCert contract class «effective_day») ⌝ }
+    ensures { λ r. ⌜ Gives (now (ledger .entry)) (callCert contract class «effective_day») r (now (answer .exit)) (now (ledger .exit)) ⌝ }
 {
-    give(
-        contract_calls::cert(ledger, contract, class, effective_day),
+    make(
+        ledger,
+        &NO_BOOK,
+        Call::Cert {
+            contract,
+            class,
+            effective_day,
+        },
         answer,
     )
 }
@@ -112,35 +134,34 @@ pub extern "C" fn ebds_cancel(
     first: u32,
     answer: &mut [i64; 3],
 ) -> u32
-    ensures { λ r. ⌜ (r ≡ refusalNumber (packedMachine .answer (now (ledger .entry)) (callCancel contract first))) × (now (answer .exit) ≡ answerValues (packedMachine .answer (now (ledger .entry)) (callCancel contract first))) ⌝ }
-    ensures { λ _. ⌜ now (ledger .exit) ≡ packedMachine .step (now (ledger .entry)) (callCancel contract first) ⌝ }
+    ensures { λ r. ⌜ Gives (now (ledger .entry)) (callCancel contract first) r (now (answer .exit)) (now (ledger .exit)) ⌝ }
 {
-    give(bill_calls::cancel(ledger, contract, first), answer)
+    let none = [0u32; 0];
+    make(ledger, &none, Call::Cancel { contract, first }, answer)
 }
 
 // claim.
 #[no_mangle]
 pub extern "C" fn ebds_claim(ledger: &mut [u8], answer: &mut [i64; 3]) -> u32
-    ensures { λ r. ⌜ (r ≡ refusalNumber (packedMachine .answer (now (ledger .entry)) callClaim)) × (now (answer .exit) ≡ answerValues (packedMachine .answer (now (ledger .entry)) callClaim)) ⌝ }
-    ensures { λ _. ⌜ now (ledger .exit) ≡ packedMachine .step (now (ledger .entry)) callClaim ⌝ }
+    ensures { λ r. ⌜ Gives (now (ledger .entry)) callClaim r (now (answer .exit)) (now (ledger .exit)) ⌝ }
 {
-    give(claim_calls::claim(ledger), answer)
+    make(ledger, &[], Call::Claim, answer)
 }
 
 // report (contract). It changes no byte.
 #[no_mangle]
 pub extern "C" fn ebds_report(ledger: &[u8], contract: u32, answer: &mut [i64; 3]) -> u32
-    ensures { λ r. ⌜ (r ≡ refusalNumber (packedMachine .answer (now (ledger .entry)) (callReport contract))) × (now (answer .exit) ≡ answerValues (packedMachine .answer (now (ledger .entry)) (callReport contract))) ⌝ }
+    ensures { λ r. ⌜ (r ≡ refusalNumber (machine .answer (now (ledger .entry)) (callReport contract))) × (now (answer .exit) ≡ answerValues (machine .answer (now (ledger .entry)) (callReport contract))) ⌝ }
 {
-    give(claim_calls::report(ledger, contract), answer)
+    give(tell(claim_calls::report(ledger, contract)), answer)
 }
 
 // total. It changes no byte.
 #[no_mangle]
 pub extern "C" fn ebds_total(ledger: &[u8], answer: &mut [i64; 3]) -> u32
-    ensures { λ r. ⌜ (r ≡ refusalNumber (packedMachine .answer (now (ledger .entry)) callTotal)) × (now (answer .exit) ≡ answerValues (packedMachine .answer (now (ledger .entry)) callTotal)) ⌝ }
+    ensures { λ r. ⌜ (r ≡ refusalNumber (machine .answer (now (ledger .entry)) callTotal)) × (now (answer .exit) ≡ answerValues (machine .answer (now (ledger .entry)) callTotal)) ⌝ }
 {
-    give(claim_calls::total(ledger), answer)
+    give(tell(claim_calls::total(ledger)), answer)
 }
 
 // day (year, month, day).
@@ -148,7 +169,7 @@ pub extern "C" fn ebds_total(ledger: &[u8], answer: &mut [i64; 3]) -> u32
 pub extern "C" fn ebds_day(year: u32, month: u32, day: u32, answer: &mut [i64; 3]) -> u32
     ensures { λ r. ⌜ (r ≡ dayRefusalNumber (dayAnswer year month day)) × (now (answer .exit) ≡ dayAnswerValues (dayAnswer year month day)) ⌝ }
 {
-    give_day(calendar::day(year, month, day), answer)
+    give(tell_day(calendar::day(year, month, day)), answer)
 }
 
 // date (day number).
@@ -156,5 +177,5 @@ pub extern "C" fn ebds_day(year: u32, month: u32, day: u32, answer: &mut [i64; 3
 pub extern "C" fn ebds_date(day: u32, answer: &mut [i64; 3]) -> u32
     ensures { λ r. ⌜ (r ≡ dateRefusalNumber (dateAnswer day)) × (now (answer .exit) ≡ dateAnswerValues (dateAnswer day)) ⌝ }
 {
-    give_date(calendar::date(day), answer)
+    give(tell_date(calendar::date(day)), answer)
 }

@@ -14,13 +14,13 @@ use Rattle.records.proofs.Pack.{length-pack}
 use Rattle.rates.specs.declared.Contract.{Contract}
 use Rattle.model.specs.declared.Row.{Row}
 use Rattle.model.specs.Contracts.{putContract}
-use Rattle.model.specs.Document01.{document01}
 use Rattle.model.specs.Ledger.{Ledger, fresh, withRows}
-use Rattle.layout.specs.Layout.{rowCount, contractsFrom, rowsFrom, ledgerSize, bytesOf}
-use Rattle.layout.specs.PackedLedger.{contractKind, rowKind, packedLayout}
+use Rattle.layout.specs.Layout.{rowCount, contractsFrom, rowsFrom, ledgerSize}
+use Rattle.layout.specs.PackedLedger.{contractKind, rowKind}
 use Rattle.layout.specs.Offsets.{ledgerLength, firstContract, contractLength, contractCount, firstRow, rowLength}
 use Rattle.layout.proofs.Changes.{row-inserted, row-removed, row-replaced, contract-put, header-changed, fresh-bytes}
-use Rattle.codec.specs.Slots.{recordBytes}
+use Rattle.records.specs.OneSlot.{recordBytes}
+use Rattle.layout.specs.Present.{rules, layout, bytes}
 
 pub length-row : (x : Row) → length (recordBytes rowKind x) ≡ rowLength
 unfolding recordBytes size
@@ -30,49 +30,49 @@ pub length-contract : (k : Contract) → length (recordBytes contractKind k) ≡
 unfolding recordBytes size
 length-contract k = length-pack (whole contractKind) (slotOut contractKind (some k))
 
-module _ (l : Ledger) (b d : List ℕ) (held : b ≡ bytesOf document01 packedLayout l) where
+module _ (l : Ledger) (b d : List ℕ) (held : b ≡ bytes l) where
   -- after `insert_row`
   pub inserted-row : (rows i : ℕ) (row : Row) → length (l .rows) ≡ rows → i ≤ rows → rows < rowCount
       → d ≡ onPart firstRow (firstRow + (rows + 1) * rowLength) (insertAt (i * rowLength) (recordBytes rowKind row)) b
-      → d ≡ bytesOf document01 packedLayout (withRows l (inserted i row (l .rows)))
+      → d ≡ bytes (withRows l (inserted i row (l .rows)))
   unfolding recordBytes size rowsFrom contractsFrom
   inserted-row rows i row n h m e =
       let end : rows + 1 ≡ suc (length (l .rows)) = omega arith in
       e ∙ ap₂ (λ (k : ℕ) (x : List ℕ). onPart firstRow (firstRow + k * rowLength) (insertAt (i * rowLength) (recordBytes rowKind row)) x) end held
-      ∙ sym (row-inserted document01 packedLayout refl l row i (omega arith) (omega arith))
+      ∙ sym (row-inserted rules layout refl l row i (omega arith) (omega arith))
 
   -- after `remove_row`
   pub removed-row : (rows i : ℕ) → length (l .rows) ≡ rows → i < rows → rows ≤ rowCount
       → d ≡ onPart firstRow (firstRow + rows * rowLength) (removeAt (i * rowLength) rowLength) b
-      → d ≡ bytesOf document01 packedLayout (withRows l (removed i (l .rows)))
+      → d ≡ bytes (withRows l (removed i (l .rows)))
   unfolding size rowsFrom contractsFrom
   removed-row rows i n h m e =
       e ∙ ap₂ (λ (k : ℕ) (x : List ℕ). onPart firstRow (firstRow + k * rowLength) (removeAt (i * rowLength) rowLength) x) (sym n) held
-      ∙ sym (row-removed document01 packedLayout refl l i (omega arith) (omega arith))
+      ∙ sym (row-removed rules layout refl l i (omega arith) (omega arith))
 
   -- after `replace_row`
   pub replaced-row : (i : ℕ) (row : Row) → i < length (l .rows) → length (l .rows) ≤ rowCount
       → d ≡ replaceAt (firstRow + i * rowLength) (recordBytes rowKind row) b
-      → d ≡ bytesOf document01 packedLayout (withRows l (set (l .rows) i row))
+      → d ≡ bytes (withRows l (set (l .rows) i row))
   unfolding recordBytes size rowsFrom contractsFrom
   replaced-row i row h m e =
-      e ∙ ap (replaceAt (firstRow + i * rowLength) (recordBytes rowKind row)) held ∙ sym (row-replaced document01 packedLayout refl l row i h m)
+      e ∙ ap (replaceAt (firstRow + i * rowLength) (recordBytes rowKind row)) held ∙ sym (row-replaced rules layout refl l row i h m)
 
   -- after `write_contract`
   pub written-contract : (c : ℕ) (k : Contract) → c < contractCount
       → d ≡ replaceAt (firstContract + c * contractLength) (recordBytes contractKind k) b
-      → d ≡ bytesOf document01 packedLayout (record { territory = l .territory; contracts = putContract (l .contracts) c k; rows = l .rows; claims = l .claims; pence = l .pence })
+      → d ≡ bytes (record { territory = l .territory; contracts = putContract (l .contracts) c k; rows = l .rows; claims = l .claims; pence = l .pence })
   unfolding recordBytes size contractsFrom
   written-contract c k h e =
-      e ∙ ap (replaceAt (firstContract + c * contractLength) (recordBytes contractKind k)) held ∙ sym (contract-put document01 packedLayout l c k h)
+      e ∙ ap (replaceAt (firstContract + c * contractLength) (recordBytes contractKind k)) held ∙ sym (contract-put rules layout l c k h)
 
   -- after `write_header`
-  pub written-header : (claims pence : ℕ) → d ≡ replaceAt 0 (pack (packedLayout .header) (l .territory ∷ claims ∷ pence ∷ [])) b
-      → d ≡ bytesOf document01 packedLayout (record { territory = l .territory; contracts = l .contracts; rows = l .rows; claims = claims; pence = pence })
+  pub written-header : (claims pence : ℕ) → d ≡ replaceAt 0 (pack (layout .header) (l .territory ∷ claims ∷ pence ∷ [])) b
+      → d ≡ bytes (record { territory = l .territory; contracts = l .contracts; rows = l .rows; claims = claims; pence = pence })
   written-header claims pence e =
-      e ∙ ap (replaceAt 0 (pack (packedLayout .header) (l .territory ∷ claims ∷ pence ∷ []))) held ∙ sym (header-changed document01 packedLayout l claims pence)
+      e ∙ ap (replaceAt 0 (pack (layout .header) (l .territory ∷ claims ∷ pence ∷ []))) held ∙ sym (header-changed rules layout l claims pence)
 
 -- a fresh ledger's header over zeros
-pub fresh-ledger : (t : ℕ) → bytesOf document01 packedLayout (fresh t) ≡ replaceAt 0 (pack (packedLayout .header) (t ∷ 0 ∷ 0 ∷ [])) (replicate ledgerLength 0)
+pub fresh-ledger : (t : ℕ) → bytes (fresh t) ≡ replaceAt 0 (pack (layout .header) (t ∷ 0 ∷ 0 ∷ [])) (replicate ledgerLength 0)
 unfolding size ledgerSize rowsFrom contractsFrom
-fresh-ledger t = fresh-bytes document01 packedLayout refl refl t
+fresh-ledger t = fresh-bytes rules layout refl refl t

@@ -15,12 +15,12 @@ ghost use Prim.Native.Nat.{_+_, _*_, _^_, _≤_, _<_};
 ghost use lib.ListN.{length, take, drop};
 ghost use Rattle.fields.specs.Fields.{Fit};
 ghost use Rattle.records.specs.Edits.{insertAt, removeAt, replaceAt, onPart};
-ghost use Rattle.model.specs.Document01.{document01};
 ghost use Rattle.model.specs.Ledger.{fresh, withAmount};
-ghost use Rattle.layout.specs.Layout.{rowCount, bytesOf};
-ghost use Rattle.layout.specs.PackedLedger.{contractKind, rowKind, packedLayout};
+ghost use Rattle.layout.specs.Layout.{rowCount};
+ghost use Rattle.layout.specs.PackedLedger.{contractKind, rowKind};
 ghost use Rattle.layout.specs.Offsets.{ledgerLength, firstContract, contractLength, contractCount, firstRow, rowLength};
-ghost use Rattle.codec.specs.Slots.{isTaken, recordIn, recordBytes};
+ghost use Rattle.records.specs.OneSlot.{recordIn, recordBytes, IsPacked};
+ghost use Rattle.layout.specs.Present.{bytes};
 
 // Of the `rows` held rows, those from row i on move up, and the row comes in at place i.
 pub fn insert_row(b: &mut [u8], rows: usize, i: usize, row: Row)
@@ -53,7 +53,7 @@ pub fn replace_row(b: &mut [u8], i: usize, row: Row)
 
 // Writes the amount of row i, which is held.
 pub fn replace_amount(b: &mut [u8], i: usize, amount: u64)
-    requires { ⌜ (length (now b) ≡ ledgerLength) × ((i < rowCount) × ((isTaken rowKind (take rowLength (drop (firstRow + i * rowLength) (now b))) ≡ true) × (amount < 2 ^ 50))) ⌝ }
+    requires { ⌜ (length (now b) ≡ ledgerLength) × ((i < rowCount) × (IsPacked rowKind (take rowLength (drop (firstRow + i * rowLength) (now b))) × (amount < 2 ^ 50))) ⌝ }
     ensures { λ _. ⌜ now (b .exit) ≡ replaceAt (firstRow + i * rowLength) (recordBytes rowKind (withAmount (recordIn rowKind (take rowLength (drop (firstRow + i * rowLength) (now (b .entry))))) amount)) (now (b .entry)) ⌝ }
 {
     let start = FIRST_ROW + i * ROW_LENGTH;
@@ -72,7 +72,7 @@ pub fn write_contract(b: &mut [u8], c: usize, contract: Contract)
 // Makes the bytes a fresh ledger, whatever they were.
 pub fn fresh(b: &mut [u8], territory: u32)
     requires { ⌜ (length (now b) ≡ ledgerLength) × (territory ≤ 1) ⌝ }
-    ensures { λ _. ⌜ now (b .exit) ≡ bytesOf document01 packedLayout (fresh territory) ⌝ }
+    ensures { λ _. ⌜ now (b .exit) ≡ bytes (fresh territory) ⌝ }
 {
     records::clear(b);
     write_header(b, territory, 0, 0);

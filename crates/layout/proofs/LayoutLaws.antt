@@ -1,6 +1,6 @@
 -- What a layout owes, and the tests of a well-formed ledger by name. Assumes nothing.
-use mathlib.Core.Path.{_≡_, refl, ap}
-use mathlib.Core.Bool.{true, not, _||_}
+use mathlib.Core.Path.{_≡_, refl, sym, ap, _∙_}
+use mathlib.Core.Bool.{true, false, not, _||_}
 use mathlib.Core.List.{List, [], _∷_, map}
 use Prim.Native.Nat.{ℕ, zero, suc, _^_, _≤_, _<_}
 use native.Mathlib.Omega.{arith}
@@ -17,8 +17,8 @@ use Rattle.records.specs.Places.{inOrder}
 use Rattle.records.specs.Pairs.{everyPair}
 use Rattle.rates.specs.declared.Contract.{Contract}
 use Rattle.model.specs.declared.Row.{Row}
-use Rattle.model.specs.Contracts.{Contracts}
-use Rattle.model.specs.Rules.{Rules}
+use Rattle.model.specs.Contracts.{Contracts, contractAt, isOpen}
+use Rattle.model.specs.Rules.{Rules, partOfDue}
 use Rattle.model.specs.WellFormed.{RowOk}
 use Rattle.layout.specs.Layout.{Layout, rowCount, rowTests, rowOk, comesBefore, contractsFrom, rowsFrom, ledgerSize, claimsIn, penceIn, contractsIn, rowSlots, contractTest, rowTest, wellFormedTests, wellFormed}
 
@@ -57,6 +57,26 @@ row-facts R cs x e = record {
 pub row-test : (R : Rules) (cs : Contracts) (x : Row) → RowOk R cs x → rowOk R cs x ≡ true
 unfolding rowOk
 row-test R cs x o = every-all (rowTests R cs x) (yes-lt (x .bill .contract) (R .contractLimit) (o .number), (o .isOpened, (o .ranges, (yes-eq (x .amount) _ (o .part), tt))))
+
+-- the tests of a row, one after the other, with its contract as it is read
+module _ (R : Rules) (cs : Contracts) (x : Row) (number : x .bill .contract < R .contractLimit) where
+  pub row-closed : isOpen cs (x .bill .contract) ≡ false → rowOk R cs x ≡ false
+  unfolding rowOk
+  row-closed e = rw (yes-lt (x .bill .contract) (R .contractLimit) number, e)
+
+  module _ (opened : isOpen cs (x .bill .contract) ≡ true) (k : Contract) (read : k ≡ contractAt cs (x .bill .contract)) where
+    pub row-outside : R .billOk k (x .bill) ≡ false → rowOk R cs x ≡ false
+    unfolding rowOk
+    row-outside e = rw (yes-lt (x .bill .contract) (R .contractLimit) number, opened, ← read, e)
+
+    module _ (ranges : R .billOk k (x .bill) ≡ true) where
+      pub row-rated : x .amount ≡ R .amount k (x .bill) → rowOk R cs x ≡ true
+      unfolding partOfDue
+      row-rated e = row-test R cs x (record { number = number; isOpened = opened; ranges = rw (← read) ranges; part = e ∙ ap (λ (j : Contract). R .amount j (x .bill)) read })
+
+      pub row-misrated : (x .amount ≡ R .amount k (x .bill) → ⊥) → rowOk R cs x ≡ false
+      unfolding partOfDue
+      row-misrated n = either (rowOk R cs x) (λ e. absurd (n (row-facts R cs x e .part ∙ ap (λ (j : Contract). R .amount j (x .bill)) (sym read)))) (λ e. e)
 
 pub no-pence : (c p : ℕ) → not (eqb c 0) || eqb p 0 ≡ true → c ≡ 0 → p ≡ 0
 no-pence c p e z = eq-yes p 0 (or-yes (not (eqb c 0)) _ e (ap not (yes-eq c 0 z)))

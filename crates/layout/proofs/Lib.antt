@@ -1,6 +1,13 @@
--- Laws of any layout, and of document 01's packed ledger.
+-- Laws of any layout, of the check of a ledger so laid out, and of document 01's packed ledger.
 pub mod Order
 pub mod LayoutLaws
+pub mod Lawful
 pub mod RoundTrips
 pub mod Changes
+pub mod Access
+pub mod RowChecks
+pub mod CheckedParts
+pub mod HeldRows
+pub mod Machine
 pub mod PackedLedger
+pub mod Present

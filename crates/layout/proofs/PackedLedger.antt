@@ -30,6 +30,7 @@ use Rattle.layout.specs.PackedLedger.{contractKind, rangesOf, rowKind, p
 use Rattle.layout.specs.Offsets.{firstContract, firstRow, ledgerLength}
 use Rattle.layout.specs.Theorems.{packedMachine, PackedSize, RoundTrips, DemandThree, PackedHistoriesHoldTheirFacts, PackedAnswersFromTheSheet, PackedSameAsPostings, NumberTwoMeetsNoCall}
 use Rattle.layout.proofs.LayoutLaws.{LayoutLaws, row-facts}
+use Rattle.layout.proofs.Lawful.{Lawful}
 use Rattle.layout.proofs.RoundTrips.{listed-elements, format-laws, unpacked-packed, repacked, well-formed-exactly}
 
 pub packed-size : PackedSize
@@ -106,6 +107,10 @@ packed-laws = record {
   row = row-laws;
   row-values = λ cs x o. refl;
 }
+
+-- its rules and its layout
+pub packed : Lawful document01 packedLayout
+packed = record { rules = document01-laws; layout = packed-laws }
 
 pub packed-format : FormatLaws document01 packedLedger
 packed-format = format-laws document01 document01-laws packedLayout packed-laws

@@ -18,7 +18,8 @@ use Rattle.model.specs.Contracts.{Contracts, contractAt, isOpen}
 use Rattle.model.specs.Calls.{sharing}
 use Rattle.model.specs.Rules.{Rules, partOfDue}
 use Rattle.model.specs.Ledger.{Ledger, sortsAfter}
-use Rattle.model.specs.Format.{Format}
+use Rattle.model.specs.Format.{Format, bytesMachine}
+use Rattle.model.specs.History.{Machine}
 
 -- the widths of the header's fields (territory, claims made, net pence claimed), a contract's record with the ranges of its numbers,
 -- and a row's record
@@ -122,3 +123,7 @@ module _ (R : Rules) (L : Layout) where
 
   abbrev pub format : Format
   format = record { Bytes = List ℕ; wellFormed = wellFormed; unpack = ledgerOf; pack = bytesOf }
+
+  -- the machine on the bytes
+  abbrev pub machineOf : Machine
+  machineOf = bytesMachine R format

@@ -1,4 +1,4 @@
-// The layout of the packed ledger. Its code is the sizes in bytes; the rest is specs/ and proofs/.
+// The layout of the packed ledger. Its code is the sizes in bytes and what a check finds; the rest is specs/ and proofs/.
 
 // The byte at which the contracts begin.
 pub const FIRST_CONTRACT: usize = 8;
@@ -20,3 +20,17 @@ pub const ROW_COUNT: usize = 1024;
 
 // How many bytes a ledger takes.
 pub const LEDGER_LENGTH: usize = FIRST_ROW + ROW_COUNT * ROW_LENGTH;
+
+// What a well-formed check finds: how many rows are held, and the sum of their amounts.
+pub enum Checked {
+    Malformed,
+    WellFormed { rows: u32, due: u64 },
+}
+
+// What the check of one row finds: the slot is free; or the row is not as it must be; or the first contract and day, as one number,
+// that the next row may have, and the row's amount.
+pub enum RowCheck {
+    Free,
+    Bad,
+    Good { next: u32, amount: u64 },
+}

@@ -1,9 +1,4 @@
--- The slots of the packed ledger off its bytes, the check of its rows in one pass, and what a call then answers and leaves.
-pub mod Access
-pub mod Checked
-pub mod Machine
-pub mod RowChecks
-pub mod RowsChecked
-pub mod Scan
-pub mod HeldRows
+-- What the functions' proofs share: the widths of a row's numbers, the search of the rows, and bytes of other lengths.
+pub mod RowNumbers
+pub mod Search
 pub mod OtherLengths

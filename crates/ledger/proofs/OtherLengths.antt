@@ -8,28 +8,27 @@ use lib.ListN.{length, replicate, length-replicate}
 use Rattle.basics.specs.Lists.{All}
 use Rattle.model.specs.declared.Answer.the-variants.{Refused}
 use Rattle.model.specs.Calls.{Call}
-use Rattle.model.specs.Document01.{document01}
 use Rattle.layout.specs.Layout.{wellFormed}
-use Rattle.layout.specs.PackedLedger.{packedLayout}
 use Rattle.layout.specs.Offsets.{ledgerLength}
-use Rattle.layout.specs.Theorems.{packedMachine}
 use Rattle.ledger.specs.OtherLengths.{otherLengths, NumberTwoFirst, badCalls}
-use Rattle.ledger.proofs.HeldRows.{formed-length}
-use Rattle.ledger.proofs.Machine.{machine-malformed}
+use Rattle.layout.proofs.PackedLedger.{packed, packed-size}
+use Rattle.layout.proofs.HeldRows.{formed-length}
+use Rattle.layout.proofs.Machine.{machine-malformed}
+use Rattle.layout.specs.Present.{rules, layout, machine}
 
 module _ (b : List ℕ) (other : length b ≡ ledgerLength → ⊥) where
-  malformed : wellFormed document01 packedLayout b ≡ false
-  malformed = go (wellFormed document01 packedLayout b) refl
+  malformed : wellFormed rules layout b ≡ false
+  malformed = go (wellFormed rules layout b) refl
     where
-      go : (f : Bool) → wellFormed document01 packedLayout b ≡ f → f ≡ false
-      go true e = absurd (other (formed-length b e))
+      go : (f : Bool) → wellFormed rules layout b ≡ f → f ≡ false
+      go true e = absurd (other (formed-length packed b e ∙ packed-size))
       go false e = refl
 
   -- for any call
-  pub other-length : (c : Call) → (packedMachine .answer b c ≡ Refused 2) × (packedMachine .step b c ≡ b)
-  other-length c = let m = machine-malformed b c malformed in (m .answered, m .left)
+  pub other-length : (c : Call) → (machine .answer b c ≡ Refused 2) × (machine .step b c ≡ b)
+  other-length c = let m = machine-malformed packed b c malformed in (m .answered, m .left)
 
-  other-length-all : (cs : List Call) → All (λ c. (packedMachine .answer b c ≡ Refused 2) × (packedMachine .step b c ≡ b)) cs
+  other-length-all : (cs : List Call) → All (λ c. (machine .answer b c ≡ Refused 2) × (machine .step b c ≡ b)) cs
   other-length-all [] = tt
   other-length-all (c ∷ cs) = (other-length c, other-length-all cs)
 

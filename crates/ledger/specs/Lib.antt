@@ -1,4 +1,3 @@
 -- What the check and the search of a packed ledger find, and bytes of other lengths.
-pub mod Check
 pub mod Rows
 pub mod OtherLengths

@@ -5,23 +5,24 @@ use Prim.Native.Nat.{ℕ}
 use lib.ListN.{replicate}
 use Rattle.basics.specs.Lists.{All}
 use Rattle.model.specs.declared.Answer.the-variants.{Refused}
-use Rattle.model.specs.Calls.{Call, BillRequest, callOpen, callBill, callRebill, callCert, callCancel, callClaim, callReport, callTotal}
-use Rattle.layout.specs.Theorems.{packedMachine}
+use Rattle.model.specs.declared.Request.{Request}
+use Rattle.model.specs.Calls.{Call, callOpen, callBill, callRebill, callCert, callCancel, callClaim, callReport, callTotal}
+use Rattle.layout.specs.Present.{machine}
 
 -- no byte, one byte too few and one too many
 unfoldable pub otherLengths : List (List ℕ)
 otherLengths = [] ∷ replicate 18759 0 ∷ replicate 18761 0 ∷ []
 
 -- numbers 3, 4, 5, 7 and 8 would turn it down too
-unfoldable pub badRequest : BillRequest
-badRequest = record { contract = 64; first = 0; last = 0; kwh = 100000001; supply = 1000000; wap = 1000000; book = [] }
+unfoldable pub badRequest : Request
+badRequest = record { contract = 64; first = 0; last = 0; kwh = 100000001; supply = 1000000; wap = 1000000 }
 
 -- each call of a history, with numbers that are wrong where it takes any
 unfoldable pub badCalls : List Call
 badCalls =
     callOpen 64 2 4 852 852
-    ∷ callBill badRequest
-    ∷ callRebill badRequest
+    ∷ callBill badRequest []
+    ∷ callRebill badRequest []
     ∷ callCert 64 3 852
     ∷ callCancel 64 0
     ∷ callReport 64
@@ -31,4 +32,4 @@ badCalls =
 
 -- number 2 comes before all others, and no byte is changed
 abbrev pub NumberTwoFirst : Type 0
-NumberTwoFirst = All (λ b. All (λ c. (packedMachine .answer b c ≡ Refused 2) × (packedMachine .step b c ≡ b)) badCalls) otherLengths
+NumberTwoFirst = All (λ b. All (λ c. (machine .answer b c ≡ Refused 2) × (machine .step b c ≡ b)) badCalls) otherLengths

@@ -3,43 +3,26 @@ use crate::contracts::contract_at;
 use crate::contracts::is_open;
 use layout::CONTRACT_COUNT;
 use layout::CONTRACT_LENGTH;
+use layout::Checked;
 use layout::FIRST_CONTRACT;
 use layout::FIRST_ROW;
 use layout::LEDGER_LENGTH;
 use layout::ROW_COUNT;
 use layout::ROW_LENGTH;
+use layout::RowCheck;
 use model::Row;
 ghost use mathlib.Core.Path.{_≡_};
-ghost use mathlib.Core.Bool.{_&&_};
-ghost use mathlib.Core.List.{map};
-ghost use Prim.Native.Nat.{_+_, _*_, _<_, _≤_};
-ghost use lib.ListN.{length, drop};
-ghost use Rattle.basics.specs.Tests.{every};
-ghost use Rattle.records.specs.Slots.{slotOk, slots};
-ghost use Rattle.model.specs.Document01.{document01};
-ghost use Rattle.layout.specs.Layout.{rowCount, contractsIn, contractTest, rowOk};
-ghost use Rattle.layout.specs.PackedLedger.{contractKind, rowKind, packedLayout};
+ghost use Prim.Native.Nat.{_<_, _≤_};
+ghost use lib.ListN.{length};
+ghost use Rattle.layout.specs.Layout.{rowCount, rowOk};
 ghost use Rattle.layout.specs.Offsets.{firstContract, contractCount, ledgerLength};
-ghost use Rattle.ledger.specs.Check.{checkedOf, headerOk, rowSlotAt, rowCheckOf, rowsCheckedOf};
-
-// What the check finds: how many rows are held, and the sum of their amounts.
-pub enum Checked {
-    Malformed,
-    WellFormed { rows: u32, due: u64 },
-}
-
-// What the check of one row finds: the slot is free; or the row is not as it must be; or the first contract and day, as one number,
-// that the next row may have, and the row's amount.
-enum RowCheck {
-    Free,
-    Bad,
-    Good { next: u32, amount: u64 },
-}
+ghost use Rattle.layout.specs.Check.{checkedOf, headerOk, contractsOk, rowSlotAt, rowCheckOf, rowsCheckedOf};
+ghost use Rattle.layout.specs.Present.{rules, layout, contracts};
 
 // Claims at most 1,000, and no pence where no claim was made.
 fn header_ok(b: &[u8]) -> bool
     requires { ⌜ firstContract ≤ length (now b) ⌝ }
-    ensures { λ r. ⌜ r ≡ headerOk (now (b .entry)) ⌝ }
+    ensures { λ r. ⌜ r ≡ headerOk rules layout (now (b .entry)) ⌝ }
 {
     let claims = codec::header::claims(b);
     if 1000 < claims {
@@ -54,7 +37,7 @@ fn header_ok(b: &[u8]) -> bool
 // Each contract's slot is as it must be.
 fn contracts_ok(b: &[u8]) -> bool
     requires { ⌜ length (now b) ≡ ledgerLength ⌝ }
-    ensures { λ r. ⌜ r ≡ every (map (slotOk contractKind (contractTest document01 packedLayout (now (b .entry)))) (slots contractKind contractCount (drop firstContract (now (b .entry))))) ⌝ }
+    ensures { λ r. ⌜ r ≡ contractsOk rules layout (now (b .entry)) ⌝ }
 {
     let territory = codec::header::territory(b);
     let mut c: usize = 0;
@@ -71,7 +54,7 @@ fn contracts_ok(b: &[u8]) -> bool
 // A row keeps the ranges under its open contract, and its amount is its part of due.
 fn row_ok(b: &[u8], row: Row) -> bool
     requires { ⌜ (length (now b) ≡ ledgerLength) × (row .bill .contract < contractCount) ⌝ }
-    ensures { λ r. ⌜ r ≡ rowOk document01 (contractsIn document01 packedLayout (now (b .entry))) row ⌝ }
+    ensures { λ r. ⌜ r ≡ rowOk rules (contracts (now (b .entry))) row ⌝ }
 {
     let bill = row.bill;
     let c = bill.contract as usize;
@@ -91,7 +74,7 @@ fn row_ok(b: &[u8], row: Row) -> bool
 // The check of row i, whose contract and first day, as one number, are to be `least` or more.
 fn check_row(b: &[u8], i: usize, least: u32) -> RowCheck
     requires { ⌜ (length (now b) ≡ ledgerLength) × (i < rowCount) ⌝ }
-    ensures { λ r. ⌜ r ≡ rowCheckOf (contractsIn document01 packedLayout (now (b .entry))) least (rowSlotAt (now (b .entry)) i) ⌝ }
+    ensures { λ r. ⌜ r ≡ rowCheckOf rules layout (contracts (now (b .entry))) least (rowSlotAt rules layout (now (b .entry)) i) ⌝ }
 {
     let at = FIRST_ROW + i * ROW_LENGTH;
     let slot = &b[at..at + ROW_LENGTH];
@@ -115,7 +98,7 @@ fn check_row(b: &[u8], i: usize, least: u32) -> RowCheck
 // The check of all rows.
 fn check_rows(b: &[u8]) -> Checked
     requires { ⌜ length (now b) ≡ ledgerLength ⌝ }
-    ensures { λ r. ⌜ r ≡ rowsCheckedOf (now (b .entry)) ⌝ }
+    ensures { λ r. ⌜ r ≡ rowsCheckedOf rules layout (now (b .entry)) ⌝ }
 {
     let mut i: usize = 0;
     let mut least: u32 = 0;
@@ -148,7 +131,7 @@ fn check_rows(b: &[u8]) -> Checked
 
 // Whether bytes are a well-formed ledger, with the number of its rows and the sum of their amounts.
 pub fn check(b: &[u8]) -> Checked
-    ensures { λ r. ⌜ r ≡ checkedOf (now (b .entry)) ⌝ }
+    ensures { λ r. ⌜ r ≡ checkedOf rules layout (now (b .entry)) ⌝ }
 {
     if b.len() != LEDGER_LENGTH {
         return Checked::Malformed;

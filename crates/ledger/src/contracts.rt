@@ -7,15 +7,13 @@ ghost use mathlib.Core.Bool.{true};
 ghost use Prim.Native.Nat.{_<_};
 ghost use lib.ListN.{length};
 ghost use Rattle.model.specs.Contracts.{contractAt, isOpen};
-ghost use Rattle.model.specs.Document01.{document01};
-ghost use Rattle.layout.specs.Layout.{contractsIn};
-ghost use Rattle.layout.specs.PackedLedger.{packedLayout};
 ghost use Rattle.layout.specs.Offsets.{contractCount, ledgerLength};
+ghost use Rattle.layout.specs.Present.{contracts};
 
 // Whether the contract with that number is open.
 pub fn is_open(b: &[u8], c: usize) -> bool
     requires { ⌜ (length (now b) ≡ ledgerLength) × (c < contractCount) ⌝ }
-    ensures { λ r. ⌜ r ≡ isOpen (contractsIn document01 packedLayout (now (b .entry))) c ⌝ }
+    ensures { λ r. ⌜ r ≡ isOpen (contracts (now (b .entry))) c ⌝ }
 {
     let at = FIRST_CONTRACT + c * CONTRACT_LENGTH;
     codec::contracts::is_open(&b[at..at + CONTRACT_LENGTH])
@@ -23,8 +21,8 @@ pub fn is_open(b: &[u8], c: usize) -> bool
 
 // The open contract with that number.
 pub fn contract_at(b: &[u8], c: usize) -> Contract
-    requires { ⌜ (length (now b) ≡ ledgerLength) × ((c < contractCount) × (isOpen (contractsIn document01 packedLayout (now b)) c ≡ true)) ⌝ }
-    ensures { λ r. ⌜ r ≡ contractAt (contractsIn document01 packedLayout (now (b .entry))) c ⌝ }
+    requires { ⌜ (length (now b) ≡ ledgerLength) × ((c < contractCount) × (isOpen (contracts (now b)) c ≡ true)) ⌝ }
+    ensures { λ r. ⌜ r ≡ contractAt (contracts (now (b .entry))) c ⌝ }
 {
     let at = FIRST_CONTRACT + c * CONTRACT_LENGTH;
     codec::contracts::unpack_contract(&b[at..at + CONTRACT_LENGTH])

@@ -7,12 +7,12 @@ ghost use mathlib.Core.Path.{_≡_};
 ghost use mathlib.Core.Bool.{true};
 ghost use Prim.Native.Nat.{_<_};
 ghost use lib.ListN.{length};
-ghost use Rattle.model.specs.Document01.{document01};
 ghost use Rattle.model.specs.Places.{placeOf};
-ghost use Rattle.layout.specs.Layout.{rowCount, wellFormed, ledgerOf};
-ghost use Rattle.layout.specs.PackedLedger.{packedLayout};
+ghost use Rattle.layout.specs.Layout.{rowCount};
 ghost use Rattle.layout.specs.Offsets.{ledgerLength};
-ghost use Rattle.ledger.specs.Rows.{rowAt, rowPasses, Searched};
+ghost use Rattle.layout.specs.Check.{rowAt, Searched};
+ghost use Rattle.layout.specs.Present.{rules, layout, facts};
+ghost use Rattle.ledger.specs.Rows.{rowPasses};
 
 // A test of rows.
 pub enum RowTest {
@@ -104,7 +104,7 @@ fn passes(test: RowTest, bill: Bill) -> bool
 // The row in slot i.
 pub fn row_at(b: &[u8], i: usize) -> Row
     requires { ⌜ (length (now b) ≡ ledgerLength) × (i < rowCount) ⌝ }
-    ensures { λ r. ⌜ r ≡ rowAt (now (b .entry)) i ⌝ }
+    ensures { λ r. ⌜ r ≡ rowAt rules layout (now (b .entry)) i ⌝ }
 {
     let at = FIRST_ROW + i * ROW_LENGTH;
     codec::rows::unpack_row(&b[at..at + ROW_LENGTH])
@@ -112,8 +112,8 @@ pub fn row_at(b: &[u8], i: usize) -> Row
 
 // The place of the first held row that passes the test, or the number of rows where none does.
 pub fn first_row(b: &[u8], rows: usize, test: RowTest) -> usize
-    requires { ⌜ Searched (now b) rows ⌝ }
-    ensures { λ r. ⌜ r ≡ placeOf (rowPasses test) (ledgerOf document01 packedLayout (now (b .entry)) .rows) ⌝ }
+    requires { ⌜ Searched rules layout (now b) rows ⌝ }
+    ensures { λ r. ⌜ r ≡ placeOf (rowPasses test) (facts (now (b .entry)) .rows) ⌝ }
 {
     let mut i: usize = 0;
     let place = loop {

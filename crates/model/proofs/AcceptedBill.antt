@@ -14,7 +14,8 @@ use Rattle.rates.specs.declared.Kind.the-variants.{Fixed, Variable, Flexible, I
 use Rattle.rates.specs.declared.Contract.{Contract}
 use Rattle.model.specs.Codes.{isFlexible}
 use Rattle.model.specs.Book.{bookIndex, referenceOf, reference}
-use Rattle.model.specs.Calls.{BillRequest}
+use Rattle.model.specs.declared.Request.{Request}
+use Rattle.model.specs.Calls.{}
 use Rattle.model.specs.Document01.{badBook, badKind, badDays, badEffective, badSpan, badAmounts, noPrice}
 
 -- ---- numbers that pass
@@ -65,7 +66,7 @@ zero-if-flexible true false e = refl
 zero-if-flexible false true e = absurd (mathlib.Core.Bool.true≢false e)
 zero-if-flexible false false e = refl
 
-module _ (k : Contract) (q : BillRequest) (book : badBook (q .book) ≡ false) (amounts : badAmounts k q ≡ false) (price : noPrice k q ≡ false) where
+module _ (k : Contract) (q : Request) (book : List ℕ) (whole : badBook book ≡ false) (amounts : badAmounts k q ≡ false) (price : noPrice k q book ≡ false) where
   pub kwh-low : q .kwh ≤ 100000000
   unfolding badAmounts
   kwh-low = lt-no 100000000 (q .kwh) (or-no-left _ _ amounts)
@@ -78,10 +79,10 @@ module _ (k : Contract) (q : BillRequest) (book : badBook (q .book) ≡ false) (
   unfolding badAmounts
   wap-low = lt-no 999999 (q .wap) (or-no-left _ _ (or-no-right (ltb 999999 (q .supply)) _ (or-no-right (ltb 100000000 (q .kwh)) _ amounts)))
 
-  pub price-low : reference k (q .first) (q .wap) (q .book) ≤ 999999
+  pub price-low : reference k (q .first) (q .wap) book ≤ 999999
   unfolding reference
-  price-low = reference-low (k .kind) (q .wap) _ 999999 wap-low (book-low (q .book) (bookIndex (k .fuel) (k .kind) (q .first)) book)
+  price-low = reference-low (k .kind) (q .wap) _ 999999 wap-low (book-low book (bookIndex (k .fuel) (k .kind) (q .first)) whole)
 
-  pub price-there : not (eqb (reference k (q .first) (q .wap) (q .book)) 0) || isFlexible (k .kind) ≡ true
+  pub price-there : not (eqb (reference k (q .first) (q .wap) book) 0) || isFlexible (k .kind) ≡ true
   unfolding noPrice
-  price-there = zero-if-flexible (isFlexible (k .kind)) (eqb (reference k (q .first) (q .wap) (q .book)) 0) price
+  price-there = zero-if-flexible (isFlexible (k .kind)) (eqb (reference k (q .first) (q .wap) book) 0) price

@@ -12,7 +12,8 @@ use Rattle.rates.specs.declared.Bill.{Bill}
 use Rattle.model.specs.declared.Answer.{Answer}
 use Rattle.model.specs.declared.Answer.the-variants.{Claimed, Totalled}
 use Rattle.model.specs.Contracts.{contractAt, isOpen}
-use Rattle.model.specs.Calls.{Call, callOpen, callBill, callRebill, callCert, callCancel, callClaim, callReport, callTotal, customerAmount, claimPence}
+use Rattle.model.specs.declared.Call.{Call as Made}
+use Rattle.model.specs.Calls.{Call, callTotal, customerAmount, claimPence, asked}
 use Rattle.model.specs.Rules.{Rules, refusal, partOfDue}
 use Rattle.model.specs.Ledger.{Ledger, fresh, unlessRefused, outcome, step, answer, view as viewL, due as dueL, accept as acceptL}
 use Rattle.model.specs.Sheet.{Sheet, blank, view as viewS, due as dueS, accept as acceptS, step as stepS, unlessRefused as unlessRefusedS}
@@ -74,18 +75,18 @@ module _ (R : Rules) (ok : RulesLaws R) where
 
   total-says : (l : Ledger) → answer R l callTotal ≡ Totalled (dueL l) (subℕ (dueL l) (10000 * l .pence))
   unfolding answer outcome acceptL
-  total-says l = subst (λ (n : ℕ). unlessRefused n l (acceptL R l callTotal) .answers ≡ Totalled (dueL l) (subℕ (dueL l) (10000 * l .pence))) (sym (ok .totals (viewL l))) refl
+  total-says l = subst (λ (n : ℕ). unlessRefused n l (acceptL R l callTotal) .answers ≡ Totalled (dueL l) (subℕ (dueL l) (10000 * l .pence))) (sym (ok .totals (viewL l) [])) refl
 
   act-floor : (l : Ledger) (c : Call) (p : ℤ) (rest : ℕ) → acceptL R l c .answers ≡ Claimed p rest → acceptL R l c .next .pence ≡ dueL (acceptL R l c .next) / 10000
   unfolding acceptL dueL
-  act-floor l (callOpen c fuel kind fix entry) p rest e = cc
-  act-floor l (callBill b) p rest e = cc
-  act-floor l (callRebill b) p rest e = cc
-  act-floor l (callCert c class effective) p rest e = cc
-  act-floor l (callCancel c first) p rest e = cc
-  act-floor l callClaim p rest e = refl
-  act-floor l (callReport c) p rest e = cc
-  act-floor l callTotal p rest e = cc
+  act-floor l (asked (Made.Open c fuel kind fix entry) book) p rest e = cc
+  act-floor l (asked (Made.Bill b) book) p rest e = cc
+  act-floor l (asked (Made.Rebill b) book) p rest e = cc
+  act-floor l (asked (Made.Cert c class effective) book) p rest e = cc
+  act-floor l (asked (Made.Cancel c first) book) p rest e = cc
+  act-floor l (asked Made.Claim book) p rest e = refl
+  act-floor l (asked (Made.Report c) book) p rest e = cc
+  act-floor l (asked Made.Total book) p rest e = cc
 
   -- an accepted claim leaves the pence at the floor, and no other call answers as it does
   claim-floor : (l : Ledger) (c : Call) (p : ℤ) (rest : ℕ) → answer R l c ≡ Claimed p rest → step R l c .pence ≡ dueL (step R l c) / 10000

@@ -11,7 +11,8 @@ use Rattle.basics.proofs.Integers.{change, reset}
 use Rattle.rates.specs.declared.Bill.{Bill}
 use Rattle.model.specs.declared.Row.{Row}
 use Rattle.model.specs.Contracts.{contractAt}
-use Rattle.model.specs.Calls.{Call, callOpen, callBill, callRebill, callCert, callCancel, callClaim, callReport, callTotal, named, requestedBill, customerAmount, claimPence}
+use Rattle.model.specs.declared.Call.{Call as Made}
+use Rattle.model.specs.Calls.{Call, named, requestedBill, customerAmount, claimPence, asked}
 use Rattle.model.specs.Rules.{Rules, refusal}
 use Rattle.model.specs.Ledger.{Ledger, amountOf, remove, replace, priced, view as viewL, due as dueL, accept}
 use Rattle.model.specs.Sheet.{Sheet}
@@ -31,22 +32,22 @@ withdraw p xs h = omega (arith, total-remove p (λ x. x .amount) xs h, amount-at
 module _ (R : Rules) (ok : RulesLaws R) where
   pub law-due : (l : Ledger) (s : Sheet) (c : Call) → Related R l s → refusal R (viewL l) c ≡ 0 → pos (dueL (accept R l c .next)) ≡ pos (dueL l) +ℤ customerAmount (accept R l c .answers)
   unfolding accept dueL viewL
-  law-due l s (callOpen c fuel kind fix entry) r e = sym (+ℤ-idr _)
-  law-due l s (callBill b) r e = ap pos (omega (arith, total-insert (λ x. x .amount) (priced R (contractAt (l .contracts) (b .contract)) (requestedBill (l .contracts) b)) (l .rows)))
-  law-due l s (callRebill b) r e = change _ _ _ _ (exchange (named (b .contract) (b .first)) _ (l .rows) (omega (arith, once-row R l s r (b .contract) (b .first), ok .rebill-found (viewL l) b e)))
-  law-due l s (callCert c class effective) r e = reset _ _
-  law-due l s (callCancel c first) r e = change _ _ _ _ (withdraw (named c first) (l .rows) (once-row R l s r c first))
-  law-due l s callClaim r e = sym (+ℤ-idr _)
-  law-due l s (callReport c) r e = sym (+ℤ-idr _)
-  law-due l s callTotal r e = sym (+ℤ-idr _)
+  law-due l s (asked (Made.Open c fuel kind fix entry) book) r e = sym (+ℤ-idr _)
+  law-due l s (asked (Made.Bill b) book) r e = ap pos (omega (arith, total-insert (λ x. x .amount) (priced R (contractAt (l .contracts) (b .contract)) (requestedBill (l .contracts) b book)) (l .rows)))
+  law-due l s (asked (Made.Rebill b) book) r e = change _ _ _ _ (exchange (named (b .contract) (b .first)) _ (l .rows) (omega (arith, once-row R l s r (b .contract) (b .first), ok .rebill-found (viewL l) b book e)))
+  law-due l s (asked (Made.Cert c class effective) book) r e = reset _ _
+  law-due l s (asked (Made.Cancel c first) book) r e = change _ _ _ _ (withdraw (named c first) (l .rows) (once-row R l s r c first))
+  law-due l s (asked Made.Claim book) r e = sym (+ℤ-idr _)
+  law-due l s (asked (Made.Report c) book) r e = sym (+ℤ-idr _)
+  law-due l s (asked Made.Total book) r e = sym (+ℤ-idr _)
 
   pub law-pence : (l : Ledger) (c : Call) → pos (accept R l c .next .pence) ≡ pos (l .pence) +ℤ claimPence (accept R l c .answers)
   unfolding accept
-  law-pence l (callOpen c fuel kind fix entry) = sym (+ℤ-idr _)
-  law-pence l (callBill b) = sym (+ℤ-idr _)
-  law-pence l (callRebill b) = sym (+ℤ-idr _)
-  law-pence l (callCert c class effective) = sym (+ℤ-idr _)
-  law-pence l (callCancel c first) = sym (+ℤ-idr _)
-  law-pence l callClaim = reset _ _
-  law-pence l (callReport c) = sym (+ℤ-idr _)
-  law-pence l callTotal = sym (+ℤ-idr _)
+  law-pence l (asked (Made.Open c fuel kind fix entry) book) = sym (+ℤ-idr _)
+  law-pence l (asked (Made.Bill b) book) = sym (+ℤ-idr _)
+  law-pence l (asked (Made.Rebill b) book) = sym (+ℤ-idr _)
+  law-pence l (asked (Made.Cert c class effective) book) = sym (+ℤ-idr _)
+  law-pence l (asked (Made.Cancel c first) book) = sym (+ℤ-idr _)
+  law-pence l (asked Made.Claim book) = reset _ _
+  law-pence l (asked (Made.Report c) book) = sym (+ℤ-idr _)
+  law-pence l (asked Made.Total book) = sym (+ℤ-idr _)

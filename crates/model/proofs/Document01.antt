@@ -1,6 +1,7 @@
 -- Document 01's rules keep the laws that the proofs use. Assumes nothing.
 use mathlib.Core.Path.{_≡_, refl}
 use mathlib.Core.Bool.{true, false, not, _&&_}
+use mathlib.Core.List.{List}
 use Prim.Native.Nat.{ℕ, _≤_}
 use native.Mathlib.Omega.{arith}
 use lib.Dec.{T}
@@ -12,7 +13,9 @@ use Rattle.rates.specs.declared.Bill.{Bill}
 use Rattle.rates.proofs.WithinCaps.{amount-capped, amount-low}
 use Rattle.model.specs.Codes.{fuelCode, kindCode, priceFixDay, entryDay, classCode, effectiveDay, opening, certify}
 use Rattle.model.specs.Contracts.{contractAt, isOpen}
-use Rattle.model.specs.Calls.{Call, callOpen, callBill, callRebill, callCert, callCancel, callClaim, callReport, callTotal, BillRequest, View, named, sharing, requestedBill}
+use Rattle.model.specs.declared.Call.{Call as Made}
+use Rattle.model.specs.declared.Request.{Request}
+use Rattle.model.specs.Calls.{Call, View, named, sharing, requestedBill, asked}
 use Rattle.model.specs.Rules.{refusal}
 use Rattle.model.specs.Document01.{badBook, badNumber, badKind, badClass, badDays, badEffective, badSpan, badAmounts, noPrice, tests, contractTests, contractRanges, contractOk, billTests, billOk, most, document01}
 use Rattle.model.proofs.Refusals.{fitsAt, numbered, clear}
@@ -26,14 +29,14 @@ unfolding refusal tests
 passed v c e n = clear (tests v c) (all v c) e n
   where
     all : (v : View) (c : Call) → T (numbered (tests v c))
-    all v (callOpen c fuel kind fix entry) = tt
-    all v (callBill q) = tt
-    all v (callRebill q) = tt
-    all v (callCert c class effective) = tt
-    all v (callCancel c first) = tt
-    all v callClaim = tt
-    all v (callReport c) = tt
-    all v callTotal = tt
+    all v (asked (Made.Open c fuel kind fix entry) book) = tt
+    all v (asked (Made.Bill q) book) = tt
+    all v (asked (Made.Rebill q) book) = tt
+    all v (asked (Made.Cert c class effective) book) = tt
+    all v (asked (Made.Cancel c first) book) = tt
+    all v (asked Made.Claim book) = tt
+    all v (asked (Made.Report c) book) = tt
+    all v (asked Made.Total book) = tt
 
 -- ---- the ranges
 
@@ -73,17 +76,17 @@ certified-ok t k class effective e f h =
 
 -- ---- the accepted calls
 
-opens : (v : View) (c fuel kind fix entry : ℕ) → refusal document01 v (callOpen c fuel kind fix entry) ≡ 0 → Opened document01 v c (opening fuel kind fix entry)
+opens : (v : View) (c fuel kind fix entry : ℕ) (book : List ℕ) → refusal document01 v (asked (Made.Open c fuel kind fix entry) book) ≡ 0 → Opened document01 v c (opening fuel kind fix entry)
 unfolding tests
-opens v c fuel kind fix entry e =
-    let p = passed v (callOpen c fuel kind fix entry) e in
+opens v c fuel kind fix entry book e =
+    let p = passed v (asked (Made.Open c fuel kind fix entry) book) e in
     let low : c ≤ 63 = lt-no 63 c (p 4) in
     record { number = omega arith; new = p 5; ranges = opening-ok (v .territory) fuel kind fix entry (p 6) (p 7) }
 
-certs : (v : View) (c class effective : ℕ) → refusal document01 v (callCert c class effective) ≡ 0 → Certified document01 v c class effective
+certs : (v : View) (c class effective : ℕ) (book : List ℕ) → refusal document01 v (asked (Made.Cert c class effective) book) ≡ 0 → Certified document01 v c class effective
 unfolding tests
-certs v c class effective e =
-    let p = passed v (callCert c class effective) e in
+certs v c class effective book e =
+    let p = passed v (asked (Made.Cert c class effective) book) e in
     let low : c ≤ 63 = lt-no 63 c (p 4) in
     record { number = omega arith; isOpened = not-no _ (p 5); ranges = λ k h. certified-ok (v .territory) k class effective (p 6) (p 7) h }
 
@@ -91,12 +94,12 @@ any-cert : (k : Contract) (class effective : ℕ) (b : Bill) → billOk k b ≡ 
 unfolding billOk certify
 any-cert k class effective b e = e
 
-module _ (v : View) (q : BillRequest) where
+module _ (v : View) (q : Request) (book : List ℕ) where
   abbrev k : Contract
   k = contractAt (v .contracts) (q .contract)
 
-  taken : badBook (q .book) ≡ false → badNumber (q .contract) ≡ false → not (isOpen (v .contracts) (q .contract)) ≡ false
-      → badSpan (q .first) (q .last) ≡ false → badAmounts k q ≡ false → noPrice k q ≡ false → Taken document01 v q
+  taken : badBook book ≡ false → badNumber (q .contract) ≡ false → not (isOpen (v .contracts) (q .contract)) ≡ false
+      → badSpan (q .first) (q .last) ≡ false → badAmounts k q ≡ false → noPrice k q book ≡ false → Taken document01 v q book
   unfolding billOk requestedBill
   taken e3 e4 e5 e7 e8 e11 =
       let low : q .contract ≤ 63 = lt-no 63 (q .contract) e4 in
@@ -105,10 +108,10 @@ module _ (v : View) (q : BillRequest) where
         isOpened = not-no _ e5;
         ranges = λ g. rw (
           no-not _ e7,
-          yes-le (q .kwh) 100000000 (kwh-low k q e3 e8 e11),
-          yes-le (q .supply) 999999 (supply-low k q e3 e8 e11),
-          yes-le _ 999999 (price-low k q e3 e8 e11),
-          price-there k q e3 e8 e11,
+          yes-le (q .kwh) 100000000 (kwh-low k q book e3 e8 e11),
+          yes-le (q .supply) 999999 (supply-low k q book e3 e8 e11),
+          yes-le _ 999999 (price-low k q book e3 e8 e11),
+          price-there k q book e3 e8 e11,
         );
       }
 
@@ -116,18 +119,18 @@ pub document01-laws : RulesLaws document01
 unfolding tests refusal most
 document01-laws = record {
   opens = opens;
-  bills = λ v q e. let p = passed v (callBill q) e in taken v q (p 3) (p 4) (p 5) (p 7) (p 8) (p 11);
-  bill-free = λ v q e. let h = lt-no 0 (v .held (sharing (q .contract) (q .first) (q .last))) (passed v (callBill q) e 10) in omega arith;
-  bill-room = λ v q e. le-no 1024 (v .held (λ x. true)) (passed v (callBill q) e 12);
-  rebills = λ v q e. let p = passed v (callRebill q) e in taken v q (p 3) (p 4) (p 5) (p 7) (p 8) (p 11);
-  rebill-found = λ v q e. lt-yes 0 (v .held (named (q .contract) (q .first))) (not-no _ (passed v (callRebill q) e 9));
-  rebill-free = λ v q e.
-      let h = lt-no 0 (v .held (λ b. sharing (q .contract) (q .first) (q .last) b && not (named (q .contract) (q .first) b))) (passed v (callRebill q) e 10) in
+  bills = λ v q book e. let p = passed v (asked (Made.Bill q) book) e in taken v q book (p 3) (p 4) (p 5) (p 7) (p 8) (p 11);
+  bill-free = λ v q book e. let h = lt-no 0 (v .held (sharing (q .contract) (q .first) (q .last))) (passed v (asked (Made.Bill q) book) e 10) in omega arith;
+  bill-room = λ v q book e. le-no 1024 (v .held (λ x. true)) (passed v (asked (Made.Bill q) book) e 12);
+  rebills = λ v q book e. let p = passed v (asked (Made.Rebill q) book) e in taken v q book (p 3) (p 4) (p 5) (p 7) (p 8) (p 11);
+  rebill-found = λ v q book e. lt-yes 0 (v .held (named (q .contract) (q .first))) (not-no _ (passed v (asked (Made.Rebill q) book) e 9));
+  rebill-free = λ v q book e.
+      let h = lt-no 0 (v .held (λ b. sharing (q .contract) (q .first) (q .last) b && not (named (q .contract) (q .first) b))) (passed v (asked (Made.Rebill q) book) e 10) in
       omega arith;
   certs = certs;
-  cancel-found = λ v c first e. lt-yes 0 (v .held (named c first)) (not-no _ (passed v (callCancel c first) e 9));
-  claims = λ v e. le-no 1000 (v .claims) (passed v callClaim e 13);
-  totals = λ v. refl;
+  cancel-found = λ v c first book e. lt-yes 0 (v .held (named c first)) (not-no _ (passed v (asked (Made.Cancel c first) book) e 9));
+  claims = λ v book e. le-no 1000 (v .claims) (passed v (asked Made.Claim book) e 13);
+  totals = λ v book. refl;
   days = λ k b e. span-days (b .first) (b .last) (not-yes _ (bill-test k b e 0));
   low = λ k b e. omega (arith, amount-low k b (le-yes (b .kwh) 100000000 (bill-test k b e 1)) (le-yes (b .supply) 999999 (bill-test k b e 2)));
   any-cert = any-cert;

@@ -14,7 +14,9 @@ use Rattle.rates.specs.declared.Bill.{Bill}
 use Rattle.model.specs.declared.Row.{Row}
 use Rattle.model.specs.Codes.{opening, certify}
 use Rattle.model.specs.Contracts.{Contracts, contractAt, isOpen, putContract}
-use Rattle.model.specs.Calls.{Call, callOpen, callBill, callRebill, callCert, callCancel, callClaim, callReport, callTotal, BillRequest, named, sharing, requestedBill}
+use Rattle.model.specs.declared.Call.{Call as Made}
+use Rattle.model.specs.declared.Request.{Request}
+use Rattle.model.specs.Calls.{Call, named, sharing, requestedBill, asked}
 use Rattle.model.specs.Rules.{Rules, refusal}
 use Rattle.model.specs.Ledger.{Ledger, remove, replace, priced, rerated, accept as acceptL}
 use Rattle.model.specs.Sheet.{Sheet, strikeOut, inPlaceOf, view as viewS, accept as acceptS}
@@ -114,26 +116,26 @@ module _ (R : Rules) (ok : RulesLaws R) where
   named-count : (cs : Contracts) (c first last : ℕ) (bs : List Bill) → first ≤ last → All (BillOk R cs) bs → count (named c first) bs ≤ count (sharing c first last) bs
   named-count cs c first last bs h a = total-mono _ _ bs (all-map (BillOk R cs) _ (λ b q. one-le (named c first b) (sharing c first last b) (named-shares c first last b h (ok .days _ b (q .ranges) .0))) bs a)
 
-  keep-bill : (l : Ledger) (s : Sheet) (b : BillRequest) → Related R l s → refusal R (viewS s) (callBill b) ≡ 0 → Related R (acceptL R l (callBill b) .next) (acceptS s (callBill b))
+  keep-bill : (l : Ledger) (s : Sheet) (b : Request) (book : List ℕ) → Related R l s → refusal R (viewS s) (asked (Made.Bill b) book) ≡ 0 → Related R (acceptL R l (asked (Made.Bill b) book) .next) (acceptS s (asked (Made.Bill b) book))
   unfolding acceptL acceptS viewS requestedBill rowOf
-  keep-bill l s b r e = record {
+  keep-bill l s b book r e = record {
     territory = r .territory;
     contracts = r .contracts;
     claims = r .claims;
-    same = λ w. rw (r .contracts) (omega (arith, total-insert w (priced R (contractAt (s .contracts) (b .contract)) (requestedBill (s .contracts) b)) (l .rows), r .same w));
+    same = λ w. rw (r .contracts) (omega (arith, total-insert w (priced R (contractAt (s .contracts) (b .contract)) (requestedBill (s .contracts) b book)) (l .rows), r .same w));
     good = r .good;
     sane = (record { isOpened = t .isOpened; ranges = ranges }, r .sane);
-    once = λ c first. once-more (requestedBill (s .contracts) b) (s .bills) zero′ c first (r .once c first);
+    once = λ c first. once-more (requestedBill (s .contracts) b book) (s .bills) zero′ c first (r .once c first);
   }
     where
-      t : Taken R (viewS s) b
-      t = ok .bills (viewS s) b e
+      t : Taken R (viewS s) b book
+      t = ok .bills (viewS s) b book e
 
-      ranges : R .billOk (contractAt (s .contracts) (b .contract)) (requestedBill (s .contracts) b) ≡ true
+      ranges : R .billOk (contractAt (s .contracts) (b .contract)) (requestedBill (s .contracts) b book) ≡ true
       ranges = t .ranges (r .good (b .contract) (t .isOpened))
 
       zero′ : count (named (b .contract) (b .first)) (s .bills) ≡ 0
-      zero′ = omega (arith, ok .bill-free (viewS s) b e, named-count (s .contracts) (b .contract) (b .first) (b .last) (s .bills) (ok .days _ _ ranges .0) (r .sane))
+      zero′ = omega (arith, ok .bill-free (viewS s) b book e, named-count (s .contracts) (b .contract) (b .first) (b .last) (s .bills) (ok .days _ _ ranges .0) (r .sane))
 
   -- ---- a bill taken away, or put in place of another: sums over rows are sums over bills, with a test
 
@@ -150,9 +152,9 @@ module _ (R : Rules) (ok : RulesLaws R) where
         ∙ r .same (λ x. cond (named c first (x .bill)) (w (rowOf R (s .contracts) b)) (w x))
         ∙ sym (total-swap (named c first) b (λ b. w (rowOf R (s .contracts) b)) (s .bills))
 
-  keep-cancel : (l : Ledger) (s : Sheet) (c first : ℕ) → Related R l s → Related R (acceptL R l (callCancel c first) .next) (acceptS s (callCancel c first))
+  keep-cancel : (l : Ledger) (s : Sheet) (c first : ℕ) (book : List ℕ) → Related R l s → Related R (acceptL R l (asked (Made.Cancel c first) book) .next) (acceptS s (asked (Made.Cancel c first) book))
   unfolding acceptL acceptS
-  keep-cancel l s c first r = record {
+  keep-cancel l s c first book r = record {
     territory = r .territory;
     contracts = r .contracts;
     claims = r .claims;
@@ -162,30 +164,30 @@ module _ (R : Rules) (ok : RulesLaws R) where
     once = λ d f. let h : count (named d f) (s .bills) ≤ 1 = r .once d f in omega (arith, count-strike (named c first) (named d f) (s .bills));
   }
 
-  keep-rebill : (l : Ledger) (s : Sheet) (b : BillRequest) → Related R l s → refusal R (viewS s) (callRebill b) ≡ 0 → Related R (acceptL R l (callRebill b) .next) (acceptS s (callRebill b))
+  keep-rebill : (l : Ledger) (s : Sheet) (b : Request) (book : List ℕ) → Related R l s → refusal R (viewS s) (asked (Made.Rebill b) book) ≡ 0 → Related R (acceptL R l (asked (Made.Rebill b) book) .next) (acceptS s (asked (Made.Rebill b) book))
   unfolding acceptL acceptS viewS requestedBill rowOf
-  keep-rebill l s b r e = record {
+  keep-rebill l s b book r e = record {
     territory = r .territory;
     contracts = r .contracts;
     claims = r .claims;
-    same = λ w. rw (r .contracts) (exchanged l s r (b .contract) (b .first) (requestedBill (s .contracts) b) w);
+    same = λ w. rw (r .contracts) (exchanged l s r (b .contract) (b .first) (requestedBill (s .contracts) b book) w);
     good = r .good;
     sane = all-swap (BillOk R (s .contracts)) _ _ (s .bills) (record { isOpened = t .isOpened; ranges = t .ranges (r .good (b .contract) (t .isOpened)) }) (r .sane);
-    once = λ d f. rw (named-swap (b .contract) (b .first) (requestedBill (s .contracts) b) refl refl d f (s .bills)) (r .once d f);
+    once = λ d f. rw (named-swap (b .contract) (b .first) (requestedBill (s .contracts) b book) refl refl d f (s .bills)) (r .once d f);
   }
     where
-      t : Taken R (viewS s) b
-      t = ok .rebills (viewS s) b e
+      t : Taken R (viewS s) b book
+      t = ok .rebills (viewS s) b book e
 
   -- the contract wasn't open, so no bill of it stands: nobody's row is another
-  keep-open : (l : Ledger) (s : Sheet) (c fuel kind fix entry : ℕ) → Related R l s → refusal R (viewS s) (callOpen c fuel kind fix entry) ≡ 0 → Related R (acceptL R l (callOpen c fuel kind fix entry) .next) (acceptS s (callOpen c fuel kind fix entry))
+  keep-open : (l : Ledger) (s : Sheet) (c fuel kind fix entry : ℕ) (book : List ℕ) → Related R l s → refusal R (viewS s) (asked (Made.Open c fuel kind fix entry) book) ≡ 0 → Related R (acceptL R l (asked (Made.Open c fuel kind fix entry) book) .next) (acceptS s (asked (Made.Open c fuel kind fix entry) book))
   unfolding acceptL acceptS viewS rowOf
-  keep-open l s c fuel kind fix entry r e = record {
+  keep-open l s c fuel kind fix entry book r e = record {
     territory = r .territory;
     contracts = rw (r .contracts);
     claims = r .claims;
     same = λ w. r .same w ∙ total-all _ _ (s .bills) (all-map (BillOk R (s .contracts)) _ (λ b q. ap (λ (k : Contract). w (priced R k b)) (sym (at-other (s .contracts) c (b .contract) k′ (other b q)))) (s .bills) (r .sane));
-    good = contracts-put (λ k. R .contractOk (s .territory) k ≡ true) (s .contracts) c k′ (ok .opens (viewS s) c fuel kind fix entry e .ranges) (r .good);
+    good = contracts-put (λ k. R .contractOk (s .territory) k ≡ true) (s .contracts) c k′ (ok .opens (viewS s) c fuel kind fix entry book e .ranges) (r .good);
     sane = all-map (BillOk R (s .contracts)) (BillOk R (putContract (s .contracts) c k′)) (λ b q. record { isOpened = open-other (s .contracts) c (b .contract) k′ (other b q) ∙ q .isOpened; ranges = rw (at-other (s .contracts) c (b .contract) k′ (other b q)) (q .ranges) }) (s .bills) (r .sane);
     once = r .once;
   }
@@ -194,11 +196,11 @@ module _ (R : Rules) (ok : RulesLaws R) where
       k′ = opening fuel kind fix entry
 
       other : (b : Bill) → BillOk R (s .contracts) b → b .contract ≢ c
-      other b q p = true≢false (sym (rw p at (q .isOpened)) ∙ ok .opens (viewS s) c fuel kind fix entry e .new)
+      other b q p = true≢false (sym (rw p at (q .isOpened)) ∙ ok .opens (viewS s) c fuel kind fix entry book e .new)
 
-  keep-cert : (l : Ledger) (s : Sheet) (c class effective : ℕ) → Related R l s → refusal R (viewS s) (callCert c class effective) ≡ 0 → Related R (acceptL R l (callCert c class effective) .next) (acceptS s (callCert c class effective))
+  keep-cert : (l : Ledger) (s : Sheet) (c class effective : ℕ) (book : List ℕ) → Related R l s → refusal R (viewS s) (asked (Made.Cert c class effective) book) ≡ 0 → Related R (acceptL R l (asked (Made.Cert c class effective) book) .next) (acceptS s (asked (Made.Cert c class effective) book))
   unfolding acceptL acceptS viewS rowOf rerated priced
-  keep-cert l s c class effective r e = record {
+  keep-cert l s c class effective book r e = record {
     territory = r .territory;
     contracts = rw (r .contracts);
     claims = r .claims;
@@ -212,7 +214,7 @@ module _ (R : Rules) (ok : RulesLaws R) where
       k′ = certify (contractAt (s .contracts) c) class effective
 
       o : Certified R (viewS s) c class effective
-      o = ok .certs (viewS s) c class effective e
+      o = ok .certs (viewS s) c class effective book e
 
       still : (b : Bill) → BillOk R (s .contracts) b → BillOk R (putContract (s .contracts) c k′) b
       still b q = either (eqb (b .contract) c)
@@ -222,24 +224,24 @@ module _ (R : Rules) (ok : RulesLaws R) where
           })
           (λ e. let n : b .contract ≢ c = eq-no (b .contract) c e in record { isOpened = open-other (s .contracts) c (b .contract) k′ n ∙ q .isOpened; ranges = rw (at-other (s .contracts) c (b .contract) k′ n) (q .ranges) })
 
-  keep-claim : (l : Ledger) (s : Sheet) → Related R l s → Related R (acceptL R l callClaim .next) (acceptS s callClaim)
+  keep-claim : (l : Ledger) (s : Sheet) (book : List ℕ) → Related R l s → Related R (acceptL R l (asked Made.Claim book) .next) (acceptS s (asked Made.Claim book))
   unfolding acceptL acceptS
-  keep-claim l s r = record { territory = r .territory; contracts = r .contracts; claims = ap suc (r .claims); same = r .same; good = r .good; sane = r .sane; once = r .once }
+  keep-claim l s book r = record { territory = r .territory; contracts = r .contracts; claims = ap suc (r .claims); same = r .same; good = r .good; sane = r .sane; once = r .once }
 
-  keep-report : (l : Ledger) (s : Sheet) (c : ℕ) → Related R l s → Related R (acceptL R l (callReport c) .next) (acceptS s (callReport c))
+  keep-report : (l : Ledger) (s : Sheet) (c : ℕ) (book : List ℕ) → Related R l s → Related R (acceptL R l (asked (Made.Report c) book) .next) (acceptS s (asked (Made.Report c) book))
   unfolding acceptL acceptS
-  keep-report l s c r = r
+  keep-report l s c book r = r
 
-  keep-total : (l : Ledger) (s : Sheet) → Related R l s → Related R (acceptL R l callTotal .next) (acceptS s callTotal)
+  keep-total : (l : Ledger) (s : Sheet) (book : List ℕ) → Related R l s → Related R (acceptL R l (asked Made.Total book) .next) (acceptS s (asked Made.Total book))
   unfolding acceptL acceptS
-  keep-total l s r = r
+  keep-total l s book r = r
 
   pub keep-act : (l : Ledger) (s : Sheet) (c : Call) → Related R l s → refusal R (viewS s) c ≡ 0 → Related R (acceptL R l c .next) (acceptS s c)
-  keep-act l s (callOpen c fuel kind fix entry) r e = keep-open l s c fuel kind fix entry r e
-  keep-act l s (callBill b) r e = keep-bill l s b r e
-  keep-act l s (callRebill b) r e = keep-rebill l s b r e
-  keep-act l s (callCert c class effective) r e = keep-cert l s c class effective r e
-  keep-act l s (callCancel c first) r e = keep-cancel l s c first r
-  keep-act l s callClaim r e = keep-claim l s r
-  keep-act l s (callReport c) r e = keep-report l s c r
-  keep-act l s callTotal r e = keep-total l s r
+  keep-act l s (asked (Made.Open c fuel kind fix entry) book) r e = keep-open l s c fuel kind fix entry book r e
+  keep-act l s (asked (Made.Bill b) book) r e = keep-bill l s b book r e
+  keep-act l s (asked (Made.Rebill b) book) r e = keep-rebill l s b book r e
+  keep-act l s (asked (Made.Cert c class effective) book) r e = keep-cert l s c class effective book r e
+  keep-act l s (asked (Made.Cancel c first) book) r e = keep-cancel l s c first book r
+  keep-act l s (asked Made.Claim book) r e = keep-claim l s book r
+  keep-act l s (asked (Made.Report c) book) r e = keep-report l s c book r
+  keep-act l s (asked Made.Total book) r e = keep-total l s book r

@@ -14,7 +14,9 @@ use Rattle.rates.specs.declared.Contract.{Contract}
 use Rattle.rates.specs.declared.Bill.{Bill}
 use Rattle.model.specs.Codes.{certify}
 use Rattle.model.specs.Contracts.{Contracts, contractAt, putContract}
-use Rattle.model.specs.Calls.{Call, callOpen, callBill, callRebill, callCert, callCancel, callClaim, callReport, callTotal, BillRequest, named, requestedBill, customerAmount, claimPence}
+use Rattle.model.specs.declared.Call.{Call as Made}
+use Rattle.model.specs.declared.Request.{Request}
+use Rattle.model.specs.Calls.{Call, named, requestedBill, customerAmount, claimPence, asked}
 use Rattle.model.specs.Rules.{Rules, refusal, partOfDue}
 use Rattle.model.specs.Ledger.{Ledger, fresh, amountOf, unlessRefused, outcome, accept as acceptL, step as stepL, answer, due as dueL}
 use Rattle.model.specs.Sheet.{Sheet, view as viewS, due as dueS, accept as acceptS}
@@ -95,35 +97,35 @@ module _ (R : Rules) (ok : RulesLaws R) where
         let others : total (λ b. cond (of b) 0 (new b)) (s .bills) ≡ total (λ b. cond (of b) 0 (old b)) (s .bills) = total-cong _ _ (λ b. other-same (of b) (new b) (old b) (part-other c k b)) (s .bills) in
         omega (arith, total-passing of new (s .bills), total-passing of old (s .bills), total-split of new (s .bills), total-split of old (s .bills), others)
 
-    rebilled-customer : (q : BillRequest) → customerAmount (acceptL R l (callRebill q) .answers) ≡ sumPosted (posts R s (callRebill q))
+    rebilled-customer : (q : Request) (book : List ℕ) → customerAmount (acceptL R l (asked (Made.Rebill q) book) .answers) ≡ sumPosted (posts R s (asked (Made.Rebill q) book))
     unfolding acceptL posts
-    rebilled-customer q =
-        let b = requestedBill (s .contracts) q in
+    rebilled-customer q book =
+        let b = requestedBill (s .contracts) q book in
         let n : total (partOfDue R (s .contracts)) (b ∷ []) ≡ partOfDue R (s .contracts) b = omega arith in
-        (λ i. subℕ ((requested-amount R l s r q ∙ sym n) i) (named-bills (q .contract) (q .first) i))
+        (λ i. subℕ ((requested-amount R l s r q book ∙ sym n) i) (named-bills (q .contract) (q .first) i))
         ∙ sym (sum-exchanged R (s .contracts) (s .contracts) (passing (named (q .contract) (q .first)) (s .bills)) (b ∷ []))
 
-    certified-customer : (c class effective : ℕ) → refusal R (viewS s) (callCert c class effective) ≡ 0 → customerAmount (acceptL R l (callCert c class effective) .answers) ≡ sumPosted (posts R s (callCert c class effective))
+    certified-customer : (c class effective : ℕ) (book : List ℕ) → refusal R (viewS s) (asked (Made.Cert c class effective) book) ≡ 0 → customerAmount (acceptL R l (asked (Made.Cert c class effective) book) .answers) ≡ sumPosted (posts R s (asked (Made.Cert c class effective) book))
     unfolding acceptL acceptS posts dueL dueS
-    certified-customer c class effective e =
+    certified-customer c class effective book e =
         let cs = putContract (s .contracts) c (certify (contractAt (s .contracts) c) class effective) in
         let bs = passing (λ b. eqb (b .contract) c) (s .bills) in
-        (λ i. subℕ (dues R (acceptL R l (callCert c class effective) .next) (acceptS s (callCert c class effective)) (keep-act R ok l s (callCert c class effective) r e) i) (dues R l s r i))
+        (λ i. subℕ (dues R (acceptL R l (asked (Made.Cert c class effective) book) .next) (acceptS s (asked (Made.Cert c class effective) book)) (keep-act R ok l s (asked (Made.Cert c class effective) book) r e) i) (dues R l s r i))
         ∙ sub-same (total (partOfDue R cs) (s .bills)) (total (partOfDue R (s .contracts)) (s .bills)) (total (partOfDue R cs) bs) (total (partOfDue R (s .contracts)) bs) (certified-due c (certify (contractAt (s .contracts) c) class effective))
         ∙ sym (sum-exchanged R (s .contracts) cs bs bs)
 
     posted-customer : (c : Call) → refusal R (viewS s) c ≡ 0 → customerAmount (acceptL R l c .answers) ≡ sumPosted (posts R s c)
     unfolding acceptL posts
-    posted-customer (callOpen c fuel kind fix entry) e = refl
-    posted-customer (callBill q) e = ap pos (requested-amount R l s r q) ∙ sym (+ℤ-idr _)
-    posted-customer (callRebill q) e = rebilled-customer q
-    posted-customer (callCert c class effective) e = certified-customer c class effective e
-    posted-customer (callCancel c first) e =
+    posted-customer (asked (Made.Open c fuel kind fix entry) book) e = refl
+    posted-customer (asked (Made.Bill q) book) e = ap pos (requested-amount R l s r q book) ∙ sym (+ℤ-idr _)
+    posted-customer (asked (Made.Rebill q) book) e = rebilled-customer q book
+    posted-customer (asked (Made.Cert c class effective) book) e = certified-customer c class effective book e
+    posted-customer (asked (Made.Cancel c first) book) e =
         let bs = passing (named c first) (s .bills) in
         ap (subℕ 0) (named-bills c first) ∙ sub-pos 0 (total (partOfDue R (s .contracts)) bs) ∙ +ℤ-idl _ ∙ sym (sum-reversed (partOfDue R (s .contracts)) bs)
-    posted-customer callClaim e = refl
-    posted-customer (callReport c) e = refl
-    posted-customer callTotal e = refl
+    posted-customer (asked Made.Claim book) e = refl
+    posted-customer (asked (Made.Report c) book) e = refl
+    posted-customer (asked Made.Total book) e = refl
 
   -- ---- the ledger beside the posting module
 
@@ -135,25 +137,25 @@ module _ (R : Rules) (ok : RulesLaws R) where
   module _ (l : Ledger) (p : Postings) (a : Agree l p) where
     accepted-rate : (c : Call) → answeredRate (acceptL R l c .answers) ≡ acceptedRate R (p .standing) c
     unfolding acceptL acceptedRate requestedBill
-    accepted-rate (callOpen c fuel kind fix entry) = refl
-    accepted-rate (callBill q) = rw (a .facts .contracts)
-    accepted-rate (callRebill q) = rw (a .facts .contracts)
-    accepted-rate (callCert c class effective) = refl
-    accepted-rate (callCancel c first) = refl
-    accepted-rate callClaim = refl
-    accepted-rate (callReport c) = refl
-    accepted-rate callTotal = refl
+    accepted-rate (asked (Made.Open c fuel kind fix entry) book) = refl
+    accepted-rate (asked (Made.Bill q) book) = rw (a .facts .contracts)
+    accepted-rate (asked (Made.Rebill q) book) = rw (a .facts .contracts)
+    accepted-rate (asked (Made.Cert c class effective) book) = refl
+    accepted-rate (asked (Made.Cancel c first) book) = refl
+    accepted-rate (asked Made.Claim book) = refl
+    accepted-rate (asked (Made.Report c) book) = refl
+    accepted-rate (asked Made.Total book) = refl
 
     accepted-pence : (c : Call) → claimPence (acceptL R l c .answers) ≡ acceptedPence p c
     unfolding acceptL acceptedPence
-    accepted-pence (callOpen c fuel kind fix entry) = refl
-    accepted-pence (callBill q) = refl
-    accepted-pence (callRebill q) = refl
-    accepted-pence (callCert c class effective) = refl
-    accepted-pence (callCancel c first) = refl
-    accepted-pence callClaim = rw (a .posted, a .claimed) (sub-pos (dueL l / 10000) (l .pence))
-    accepted-pence (callReport c) = refl
-    accepted-pence callTotal = refl
+    accepted-pence (asked (Made.Open c fuel kind fix entry) book) = refl
+    accepted-pence (asked (Made.Bill q) book) = refl
+    accepted-pence (asked (Made.Rebill q) book) = refl
+    accepted-pence (asked (Made.Cert c class effective) book) = refl
+    accepted-pence (asked (Made.Cancel c first) book) = refl
+    accepted-pence (asked Made.Claim book) = rw (a .posted, a .claimed) (sub-pos (dueL l / 10000) (l .pence))
+    accepted-pence (asked (Made.Report c) book) = refl
+    accepted-pence (asked Made.Total book) = refl
 
     same-figures : (c : Call) → answeredFigures (answer R l c) ≡ figures R p c
     unfolding answeredFigures answer outcome figures acceptedFigures

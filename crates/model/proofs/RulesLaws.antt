@@ -1,18 +1,21 @@
 -- What the proofs use of the rules. Assumes nothing.
 use mathlib.Core.Path.{_≡_}
 use mathlib.Core.Bool.{true, false, not, _&&_}
+use mathlib.Core.List.{List}
 use Prim.Native.Nat.{ℕ, _<_, _≤_}
 use Rattle.rates.specs.declared.Contract.{Contract}
 use Rattle.rates.specs.declared.Bill.{Bill}
 use Rattle.model.specs.Codes.{opening, certify}
 use Rattle.model.specs.Contracts.{contractAt, isOpen}
-use Rattle.model.specs.Calls.{callOpen, callBill, callRebill, callCert, callCancel, callClaim, callTotal, BillRequest, View, named, sharing, requestedBill}
+use Rattle.model.specs.declared.Call.{Call as Made}
+use Rattle.model.specs.declared.Request.{Request}
+use Rattle.model.specs.Calls.{View, named, sharing, requestedBill, asked}
 use Rattle.model.specs.Rules.{Rules, refusal}
 
-pub record Taken (R : Rules) (v : View) (b : BillRequest) : Type 0 where
+pub record Taken (R : Rules) (v : View) (b : Request) (book : List ℕ) : Type 0 where
   pub number : b .contract < R .contractLimit
   pub isOpened : isOpen (v .contracts) (b .contract) ≡ true
-  pub ranges : R .contractOk (v .territory) (contractAt (v .contracts) (b .contract)) ≡ true → R .billOk (contractAt (v .contracts) (b .contract)) (requestedBill (v .contracts) b) ≡ true
+  pub ranges : R .contractOk (v .territory) (contractAt (v .contracts) (b .contract)) ≡ true → R .billOk (contractAt (v .contracts) (b .contract)) (requestedBill (v .contracts) b book) ≡ true
 
 pub record Opened (R : Rules) (v : View) (c : ℕ) (k : Contract) : Type 0 where
   pub number : c < R .contractLimit
@@ -26,17 +29,17 @@ pub record Certified (R : Rules) (v : View) (c class effective : ℕ) : Type 0 w
 
 pub record RulesLaws (R : Rules) : Type 0 where
   -- accepted calls
-  pub opens : (v : View) (c fuel kind fix entry : ℕ) → refusal R v (callOpen c fuel kind fix entry) ≡ 0 → Opened R v c (opening fuel kind fix entry)
-  pub bills : (v : View) (b : BillRequest) → refusal R v (callBill b) ≡ 0 → Taken R v b
-  pub bill-free : (v : View) (b : BillRequest) → refusal R v (callBill b) ≡ 0 → v .held (sharing (b .contract) (b .first) (b .last)) ≡ 0
-  pub bill-room : (v : View) (b : BillRequest) → refusal R v (callBill b) ≡ 0 → v .held (λ x. true) < 1024
-  pub rebills : (v : View) (b : BillRequest) → refusal R v (callRebill b) ≡ 0 → Taken R v b
-  pub rebill-found : (v : View) (b : BillRequest) → refusal R v (callRebill b) ≡ 0 → 0 < v .held (named (b .contract) (b .first))
-  pub rebill-free : (v : View) (b : BillRequest) → refusal R v (callRebill b) ≡ 0 → v .held (λ x. sharing (b .contract) (b .first) (b .last) x && not (named (b .contract) (b .first) x)) ≡ 0
-  pub certs : (v : View) (c class effective : ℕ) → refusal R v (callCert c class effective) ≡ 0 → Certified R v c class effective
-  pub cancel-found : (v : View) (c first : ℕ) → refusal R v (callCancel c first) ≡ 0 → 0 < v .held (named c first)
-  pub claims : (v : View) → refusal R v callClaim ≡ 0 → v .claims < 1000
-  pub totals : (v : View) → refusal R v callTotal ≡ 0
+  pub opens : (v : View) (c fuel kind fix entry : ℕ) (book : List ℕ) → refusal R v (asked (Made.Open c fuel kind fix entry) book) ≡ 0 → Opened R v c (opening fuel kind fix entry)
+  pub bills : (v : View) (b : Request) (book : List ℕ) → refusal R v (asked (Made.Bill b) book) ≡ 0 → Taken R v b book
+  pub bill-free : (v : View) (b : Request) (book : List ℕ) → refusal R v (asked (Made.Bill b) book) ≡ 0 → v .held (sharing (b .contract) (b .first) (b .last)) ≡ 0
+  pub bill-room : (v : View) (b : Request) (book : List ℕ) → refusal R v (asked (Made.Bill b) book) ≡ 0 → v .held (λ x. true) < 1024
+  pub rebills : (v : View) (b : Request) (book : List ℕ) → refusal R v (asked (Made.Rebill b) book) ≡ 0 → Taken R v b book
+  pub rebill-found : (v : View) (b : Request) (book : List ℕ) → refusal R v (asked (Made.Rebill b) book) ≡ 0 → 0 < v .held (named (b .contract) (b .first))
+  pub rebill-free : (v : View) (b : Request) (book : List ℕ) → refusal R v (asked (Made.Rebill b) book) ≡ 0 → v .held (λ x. sharing (b .contract) (b .first) (b .last) x && not (named (b .contract) (b .first) x)) ≡ 0
+  pub certs : (v : View) (c class effective : ℕ) (book : List ℕ) → refusal R v (asked (Made.Cert c class effective) book) ≡ 0 → Certified R v c class effective
+  pub cancel-found : (v : View) (c first : ℕ) (book : List ℕ) → refusal R v (asked (Made.Cancel c first) book) ≡ 0 → 0 < v .held (named c first)
+  pub claims : (v : View) (book : List ℕ) → refusal R v (asked Made.Claim book) ≡ 0 → v .claims < 1000
+  pub totals : (v : View) (book : List ℕ) → refusal R v (asked Made.Total book) ≡ 0
   -- ranges: of days, of amounts, and whatever the certificate
   pub days : (k : Contract) (b : Bill) → R .billOk k b ≡ true → (b .first ≤ b .last) × (b .last ≤ 851)
   pub low : (k : Contract) (b : Bill) → R .billOk k b ≡ true → R .amount k b ≤ 1000000000000000

@@ -9,8 +9,8 @@ use Rattle.model.specs.Rules.{refusal}
 use Rattle.model.specs.Document01.{badBook, badKind, badDays, badEffective, badSpan, badAmounts, noPrice, tests}
 use Rattle.model.specs.Ledger.{fresh, view, sortsAfter, due, priced, rerated, accept, outcome, step, answer}
 use Rattle.model.specs.History.{answersTo}
-use Rattle.model.specs.Run.{zeroBookRequest, runCalls, runAnswers, TheRun}
+use Rattle.model.specs.Run.{zeroBook, runCalls, runAnswers, TheRun}
 
 pub the-run : TheRun
-unfolding answersTo zeroBookRequest runCalls runAnswers fresh view sortsAfter due priced rerated accept outcome step answer refusal tests badBook badKind badDays badEffective badSpan badAmounts noPrice named sharing requestedBill reference contractAt isOpen putContract opening certify amount rate classOf qhsClass classRate partOf part leastTerm
+unfolding answersTo zeroBook runCalls runAnswers fresh view sortsAfter due priced rerated accept outcome step answer refusal tests badBook badKind badDays badEffective badSpan badAmounts noPrice named sharing requestedBill reference contractAt isOpen putContract opening certify amount rate classOf qhsClass classRate partOf part leastTerm
 the-run = refl

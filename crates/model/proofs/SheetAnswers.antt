@@ -14,7 +14,9 @@ use Rattle.model.specs.declared.Answer.{Answer}
 use Rattle.model.specs.declared.Answer.the-variants.{Billed, Rebilled, Certified, Cancelled, Reported, Totalled}
 use Rattle.model.specs.Codes.{certify}
 use Rattle.model.specs.Contracts.{Contracts, contractAt, putContract}
-use Rattle.model.specs.Calls.{Call, callOpen, callBill, callRebill, callCert, callCancel, callClaim, callReport, callTotal, BillRequest, named, requestedBill, claimPence}
+use Rattle.model.specs.declared.Call.{Call as Made}
+use Rattle.model.specs.declared.Request.{Request}
+use Rattle.model.specs.Calls.{Call, callClaim, named, requestedBill, claimPence, asked}
 use Rattle.model.specs.Rules.{Rules, refusal, partOfDue}
 use Rattle.model.specs.Ledger.{Ledger, fresh, amountOf, priced, ofContract, rerated, unlessRefused as unlessRefusedL, outcome, accept as acceptL, answer, due as dueL}
 use Rattle.model.specs.Sheet.{Sheet, blank, view as viewS, due as dueS, accept as acceptS}
@@ -33,15 +35,15 @@ use Rattle.model.proofs.BytesBalance.{bytes-refine}
 
 module _ (R : Rules) (l : Ledger) (s : Sheet) (r : Related R l s) where
   -- the amount of a new row is the part of the bill that the call brings
-  pub requested-amount : (q : BillRequest) → priced R (contractAt (l .contracts) (q .contract)) (requestedBill (l .contracts) q) .amount ≡ partOfDue R (s .contracts) (requestedBill (s .contracts) q)
+  pub requested-amount : (q : Request) (book : List ℕ) → priced R (contractAt (l .contracts) (q .contract)) (requestedBill (l .contracts) q book) .amount ≡ partOfDue R (s .contracts) (requestedBill (s .contracts) q book)
   unfolding priced partOfDue requestedBill
-  requested-amount q = rw (r .contracts)
+  requested-amount q book = rw (r .contracts)
 
-  requested-rate : (q : BillRequest) → R .rate (contractAt (l .contracts) (q .contract)) (requestedBill (l .contracts) q) ≡ R .rate (contractAt (s .contracts) (q .contract)) (requestedBill (s .contracts) q)
-  requested-rate q = rw (r .contracts)
+  requested-rate : (q : Request) (book : List ℕ) → R .rate (contractAt (l .contracts) (q .contract)) (requestedBill (l .contracts) q book) ≡ R .rate (contractAt (s .contracts) (q .contract)) (requestedBill (s .contracts) q book)
+  requested-rate q book = rw (r .contracts)
 
-  requested-reference : (q : BillRequest) → requestedBill (l .contracts) q .reference ≡ requestedBill (s .contracts) q .reference
-  requested-reference q = rw (r .contracts)
+  requested-reference : (q : Request) (book : List ℕ) → requestedBill (l .contracts) q book .reference ≡ requestedBill (s .contracts) q book .reference
+  requested-reference q book = rw (r .contracts)
 
   -- the amount of the row of that name is the part of the bill of that name
   pub named-amount : (c first : ℕ) → amountOf (named c first) (l .rows) ≡ namedPart R s c first
@@ -55,30 +57,30 @@ module _ (R : Rules) (l : Ledger) (s : Sheet) (r : Related R l s) where
       ∙ total-cong _ _ (λ b. ap (λ (x : Row). cond (not (eqb (x .amount) (partOfDue R (s .contracts) b))) 1 0) (rerated-row R (s .contracts) c k b)) (s .bills)
 
 module _ (R : Rules) (ok : RulesLaws R) where
-  certified-answer : (l : Ledger) (s : Sheet) (c class effective : ℕ) → Related R l s → refusal R (viewS s) (callCert c class effective) ≡ 0
-      → acceptL R l (callCert c class effective) .answers ≡ acceptedAnswer R s (pos (l .pence)) (callCert c class effective)
+  certified-answer : (l : Ledger) (s : Sheet) (c class effective : ℕ) (book : List ℕ) → Related R l s → refusal R (viewS s) (asked (Made.Cert c class effective) book) ≡ 0
+      → acceptL R l (asked (Made.Cert c class effective) book) .answers ≡ acceptedAnswer R s (pos (l .pence)) (asked (Made.Cert c class effective) book)
   unfolding acceptL acceptS acceptedAnswer dueL
-  certified-answer l s c class effective r e = λ i. Certified
-      (subℕ (dues R (acceptL R l (callCert c class effective) .next) (acceptS s (callCert c class effective)) (keep-act R ok l s (callCert c class effective) r e) i) (dues R l s r i))
+  certified-answer l s c class effective book r e = λ i. Certified
+      (subℕ (dues R (acceptL R l (asked (Made.Cert c class effective) book) .next) (acceptS s (asked (Made.Cert c class effective) book)) (keep-act R ok l s (asked (Made.Cert c class effective) book) r e) i) (dues R l s r i))
       ((ap (λ (cs : Contracts). changes cs) (r .contracts) ∙ changed-rows R l s r c (certify (contractAt (s .contracts) c) class effective)) i)
     where
       changes : Contracts → ℕ
       changes cs = count (λ x. not (eqb (rerated R c (certify (contractAt cs c) class effective) x .amount) (x .amount))) (l .rows)
 
-  reported : (l : Ledger) (s : Sheet) (c : ℕ) → Related R l s → acceptL R l (callReport c) .answers ≡ acceptedAnswer R s (pos (l .pence)) (callReport c)
+  reported : (l : Ledger) (s : Sheet) (c : ℕ) (book : List ℕ) → Related R l s → acceptL R l (asked (Made.Report c) book) .answers ≡ acceptedAnswer R s (pos (l .pence)) (asked (Made.Report c) book)
   unfolding acceptL acceptedAnswer rowOf priced partOfDue
-  reported l s c r = λ i. Reported (r .same (λ x. cond (ofContract c x) 1 0) i) (r .same (λ x. cond (ofContract c x) (x .bill .kwh) 0) i) (r .same (λ x. cond (ofContract c x) (x .amount) 0) i)
+  reported l s c book r = λ i. Reported (r .same (λ x. cond (ofContract c x) 1 0) i) (r .same (λ x. cond (ofContract c x) (x .bill .kwh) 0) i) (r .same (λ x. cond (ofContract c x) (x .amount) 0) i)
 
   accepted : (l : Ledger) (s : Sheet) (c : Call) → Related R l s → refusal R (viewS s) c ≡ 0 → acceptL R l c .answers ≡ acceptedAnswer R s (pos (l .pence)) c
   unfolding acceptL acceptedAnswer
-  accepted l s (callOpen c fuel kind fix entry) r e = refl
-  accepted l s (callBill q) r e = λ i. Billed (requested-reference R l s r q i) (requested-rate R l s r q i) (requested-amount R l s r q i)
-  accepted l s (callRebill q) r e = λ i. Rebilled (requested-reference R l s r q i) (requested-rate R l s r q i) (subℕ (requested-amount R l s r q i) (named-amount R l s r (q .contract) (q .first) i))
-  accepted l s (callCert c class effective) r e = certified-answer l s c class effective r e
-  accepted l s (callCancel c first) r e = λ i. Cancelled (subℕ 0 (named-amount R l s r c first i))
-  accepted l s callClaim r e = rw (dues R l s r, sub-pos (dueS R s / 10000) (l .pence))
-  accepted l s (callReport c) r e = reported l s c r
-  accepted l s callTotal r e = rw (dues R l s r, sub-pos (dueS R s) (10000 * l .pence))
+  accepted l s (asked (Made.Open c fuel kind fix entry) book) r e = refl
+  accepted l s (asked (Made.Bill q) book) r e = λ i. Billed (requested-reference R l s r q book i) (requested-rate R l s r q book i) (requested-amount R l s r q book i)
+  accepted l s (asked (Made.Rebill q) book) r e = λ i. Rebilled (requested-reference R l s r q book i) (requested-rate R l s r q book i) (subℕ (requested-amount R l s r q book i) (named-amount R l s r (q .contract) (q .first) i))
+  accepted l s (asked (Made.Cert c class effective) book) r e = certified-answer l s c class effective book r e
+  accepted l s (asked (Made.Cancel c first) book) r e = λ i. Cancelled (subℕ 0 (named-amount R l s r c first i))
+  accepted l s (asked Made.Claim book) r e = rw (dues R l s r, sub-pos (dueS R s / 10000) (l .pence))
+  accepted l s (asked (Made.Report c) book) r e = reported l s c book r
+  accepted l s (asked Made.Total book) r e = rw (dues R l s r, sub-pos (dueS R s) (10000 * l .pence))
 
   answered : (l : Ledger) (s : Sheet) (c : Call) → Related R l s → answer R l c ≡ sheetAnswer R s (pos (l .pence)) c
   unfolding answer outcome sheetAnswer

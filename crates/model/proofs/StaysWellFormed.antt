@@ -16,7 +16,9 @@ use Rattle.rates.specs.declared.Bill.{Bill}
 use Rattle.model.specs.declared.Row.{Row}
 use Rattle.model.specs.Codes.{opening, certify}
 use Rattle.model.specs.Contracts.{Contracts, contractAt, isOpen, putContract}
-use Rattle.model.specs.Calls.{Call, callOpen, callBill, callRebill, callCert, callCancel, callClaim, callReport, callTotal, BillRequest, View, named, sharing, requestedBill}
+use Rattle.model.specs.declared.Call.{Call as Made}
+use Rattle.model.specs.declared.Request.{Request}
+use Rattle.model.specs.Calls.{Call, View, named, sharing, requestedBill, asked}
 use Rattle.model.specs.Rules.{Rules, refusal, partOfDue}
 use Rattle.model.specs.WellFormed.{RowOk, before, WellFormed}
 use Rattle.model.specs.Ledger.{Ledger, insert, remove, replace, sortsAfter, priced, rerated, fresh, unlessRefused, outcome, step, view as viewL, due as dueL, accept as acceptL}
@@ -57,9 +59,9 @@ module _ (R : Rules) (ok : RulesLaws R) where
   unfolding partOfDue
   amount-low cs x o = omega (arith, o .part, ok .low _ (x .bill) (o .ranges))
 
-  pub new-row : (v : View) (b : BillRequest) → ((c : ℕ) → isOpen (v .contracts) c ≡ true → R .contractOk (v .territory) (contractAt (v .contracts) c) ≡ true) → Taken R v b → RowOk R (v .contracts) (priced R (contractAt (v .contracts) (b .contract)) (requestedBill (v .contracts) b))
+  pub new-row : (v : View) (b : Request) (book : List ℕ) → ((c : ℕ) → isOpen (v .contracts) c ≡ true → R .contractOk (v .territory) (contractAt (v .contracts) c) ≡ true) → Taken R v b book → RowOk R (v .contracts) (priced R (contractAt (v .contracts) (b .contract)) (requestedBill (v .contracts) b book))
   unfolding priced requestedBill partOfDue
-  new-row v b g t = record { number = t .number; isOpened = t .isOpened; ranges = t .ranges (g (b .contract) (t .isOpened)); part = refl }
+  new-row v b book g t = record { number = t .number; isOpened = t .isOpened; ranges = t .ranges (g (b .contract) (t .isOpened)); part = refl }
 
   -- ---- the calls, each accepted
 
@@ -77,9 +79,9 @@ module _ (R : Rules) (ok : RulesLaws R) where
   unfolding putContract
   numbers-put cs c k h f d i = rw (no-eq d c (omega arith)) (f d i)
 
-  stays-open : (l : Ledger) (c fuel kind fix entry : ℕ) → WellFormed R l → refusal R (viewL l) (callOpen c fuel kind fix entry) ≡ 0 → WellFormed R (acceptL R l (callOpen c fuel kind fix entry) .next)
+  stays-open : (l : Ledger) (c fuel kind fix entry : ℕ) (book : List ℕ) → WellFormed R l → refusal R (viewL l) (asked (Made.Open c fuel kind fix entry) book) ≡ 0 → WellFormed R (acceptL R l (asked (Made.Open c fuel kind fix entry) book) .next)
   unfolding acceptL viewL
-  stays-open l c fuel kind fix entry w e = record {
+  stays-open l c fuel kind fix entry book w e = record {
     territory = w .territory;
     claims = w .claims;
     pence = w .pence;
@@ -95,7 +97,7 @@ module _ (R : Rules) (ok : RulesLaws R) where
       k′ = opening fuel kind fix entry
 
       o : Opened R (viewL l) c k′
-      o = ok .opens (viewL l) c fuel kind fix entry e
+      o = ok .opens (viewL l) c fuel kind fix entry book e
 
       other : (x : Row) → RowOk R (l .contracts) x → x .bill .contract ≢ c
       other x q p = true≢false (sym (rw p at (q .isOpened)) ∙ o .new)
@@ -104,9 +106,9 @@ module _ (R : Rules) (ok : RulesLaws R) where
   unfolding rerated priced
   rerate-bill c k x = either (eqb (x .bill .contract) c) (λ e. rw e) (λ e. rw e)
 
-  stays-cert : (l : Ledger) (c class effective : ℕ) → WellFormed R l → refusal R (viewL l) (callCert c class effective) ≡ 0 → WellFormed R (acceptL R l (callCert c class effective) .next)
+  stays-cert : (l : Ledger) (c class effective : ℕ) (book : List ℕ) → WellFormed R l → refusal R (viewL l) (asked (Made.Cert c class effective) book) ≡ 0 → WellFormed R (acceptL R l (asked (Made.Cert c class effective) book) .next)
   unfolding acceptL viewL rerated priced partOfDue
-  stays-cert l c class effective w e = record {
+  stays-cert l c class effective book w e = record {
     territory = w .territory;
     claims = w .claims;
     pence = w .pence;
@@ -122,7 +124,7 @@ module _ (R : Rules) (ok : RulesLaws R) where
       k′ = certify (contractAt (l .contracts) c) class effective
 
       o : Certified R (viewL l) c class effective
-      o = ok .certs (viewL l) c class effective e
+      o = ok .certs (viewL l) c class effective book e
 
       mine : (x : Row) → x .bill .contract ≡ c → RowOk R (l .contracts) x → RowOk R (putContract (l .contracts) c k′) (priced R k′ (x .bill))
       mine x p q =
@@ -141,25 +143,25 @@ module _ (R : Rules) (ok : RulesLaws R) where
           go true f = mine x (eq-yes (x .bill .contract) c f) q
           go false f = row-other (l .contracts) c k′ x (eq-no (x .bill .contract) c f) q
 
-  stays-bill : (l : Ledger) (b : BillRequest) → WellFormed R l → refusal R (viewL l) (callBill b) ≡ 0 → WellFormed R (acceptL R l (callBill b) .next)
+  stays-bill : (l : Ledger) (b : Request) (book : List ℕ) → WellFormed R l → refusal R (viewL l) (asked (Made.Bill b) book) ≡ 0 → WellFormed R (acceptL R l (asked (Made.Bill b) book) .next)
   unfolding acceptL viewL priced requestedBill
-  stays-bill l b w e = record {
+  stays-bill l b book w e = record {
     territory = w .territory;
     claims = w .claims;
     pence = w .pence;
     unclaimed = w .unclaimed;
     numbers = w .numbers;
     contracts = w .contracts;
-    count = let h : count (λ x. true) (l .rows) < 1024 = ok .bill-room (viewL l) b e in omega (arith, length-insert r (l .rows), count-true (l .rows));
+    count = let h : count (λ x. true) (l .rows) < 1024 = ok .bill-room (viewL l) b book e in omega (arith, length-insert r (l .rows), count-true (l .rows));
     rows = all-insert (RowOk R (l .contracts)) r (l .rows) new (w .rows);
-    apart = apart-insert r (l .rows) (all-map _ (Fit r) fit (l .rows) (all-both (RowOk R (l .contracts)) _ (l .rows) (w .rows) (none-all (λ x. sharing (b .contract) (b .first) (b .last) (x .bill)) (l .rows) (ok .bill-free (viewL l) b e)))) (w .apart);
+    apart = apart-insert r (l .rows) (all-map _ (Fit r) fit (l .rows) (all-both (RowOk R (l .contracts)) _ (l .rows) (w .rows) (none-all (λ x. sharing (b .contract) (b .first) (b .last) (x .bill)) (l .rows) (ok .bill-free (viewL l) b book e)))) (w .apart);
   }
     where
       r : Row
-      r = priced R (contractAt (l .contracts) (b .contract)) (requestedBill (l .contracts) b)
+      r = priced R (contractAt (l .contracts) (b .contract)) (requestedBill (l .contracts) b book)
 
       new : RowOk R (l .contracts) r
-      new = new-row (viewL l) b (w .contracts) (ok .bills (viewL l) b e)
+      new = new-row (viewL l) b book (w .contracts) (ok .bills (viewL l) b book e)
 
       fit : (x : Row) → RowOk R (l .contracts) x × (sharing (b .contract) (b .first) (b .last) (x .bill) ≡ false) → Fit r x
       fit x o = record {
@@ -168,9 +170,9 @@ module _ (R : Rules) (ok : RulesLaws R) where
         right = right-of r x (row-span (l .contracts) r new) (row-span (l .contracts) x (o .0)) (o .1);
       }
 
-  stays-rebill : (l : Ledger) (b : BillRequest) → WellFormed R l → refusal R (viewL l) (callRebill b) ≡ 0 → WellFormed R (acceptL R l (callRebill b) .next)
+  stays-rebill : (l : Ledger) (b : Request) (book : List ℕ) → WellFormed R l → refusal R (viewL l) (asked (Made.Rebill b) book) ≡ 0 → WellFormed R (acceptL R l (asked (Made.Rebill b) book) .next)
   unfolding acceptL viewL priced requestedBill before
-  stays-rebill l b w e = record {
+  stays-rebill l b book w e = record {
     territory = w .territory;
     claims = w .claims;
     pence = w .pence;
@@ -179,14 +181,14 @@ module _ (R : Rules) (ok : RulesLaws R) where
     contracts = w .contracts;
     count = rw (length-replace (named (b .contract) (b .first)) r (l .rows)) (w .count);
     rows = all-replace (RowOk R (l .contracts)) (named (b .contract) (b .first)) r (l .rows) new (w .rows);
-    apart = apart-replace _ (named (b .contract) (b .first)) r earlier later (l .rows) (all-both (RowOk R (l .contracts)) _ (l .rows) (w .rows) (none-all clash (l .rows) (ok .rebill-free (viewL l) b e))) (w .apart);
+    apart = apart-replace _ (named (b .contract) (b .first)) r earlier later (l .rows) (all-both (RowOk R (l .contracts)) _ (l .rows) (w .rows) (none-all clash (l .rows) (ok .rebill-free (viewL l) b book e))) (w .apart);
   }
     where
       r : Row
-      r = priced R (contractAt (l .contracts) (b .contract)) (requestedBill (l .contracts) b)
+      r = priced R (contractAt (l .contracts) (b .contract)) (requestedBill (l .contracts) b book)
 
       new : RowOk R (l .contracts) r
-      new = new-row (viewL l) b (w .contracts) (ok .rebills (viewL l) b e)
+      new = new-row (viewL l) b book (w .contracts) (ok .rebills (viewL l) b book e)
 
       clash : Row → Bool
       clash x = sharing (b .contract) (b .first) (b .last) (x .bill) && not (named (b .contract) (b .first) (x .bill))
@@ -215,9 +217,9 @@ module _ (R : Rules) (ok : RulesLaws R) where
           apart′ : sharing (b .contract) (b .first) (b .last) (z .bill) ≡ false
           apart′ = and-no-left (sharing (b .contract) (b .first) (b .last) (z .bill)) _ (o .1) unnamed
 
-  stays-cancel : (l : Ledger) (c first : ℕ) → WellFormed R l → WellFormed R (acceptL R l (callCancel c first) .next)
+  stays-cancel : (l : Ledger) (c first : ℕ) (book : List ℕ) → WellFormed R l → WellFormed R (acceptL R l (asked (Made.Cancel c first) book) .next)
   unfolding acceptL
-  stays-cancel l c first w = record {
+  stays-cancel l c first book w = record {
     territory = w .territory;
     claims = w .claims;
     pence = w .pence;
@@ -233,11 +235,11 @@ module _ (R : Rules) (ok : RulesLaws R) where
   unfolding dueL
   due-low l w = let h : length (l .rows) ≤ 1024 = w .count in omega (arith, total-most (λ x. x .amount) 1000000000000000 (l .rows) (all-map (RowOk R (l .contracts)) _ (amount-low (l .contracts)) (l .rows) (w .rows)))
 
-  stays-claim : (l : Ledger) → WellFormed R l → refusal R (viewL l) callClaim ≡ 0 → WellFormed R (acceptL R l callClaim .next)
+  stays-claim : (l : Ledger) (book : List ℕ) → WellFormed R l → refusal R (viewL l) (asked Made.Claim book) ≡ 0 → WellFormed R (acceptL R l (asked Made.Claim book) .next)
   unfolding acceptL viewL
-  stays-claim l w e = record {
+  stays-claim l book w e = record {
     territory = w .territory;
-    claims = ok .claims (viewL l) e;
+    claims = ok .claims (viewL l) book e;
     pence = omega (arith, due-low l w);
     unclaimed = λ z. let y : ⊥ = omega arith in absurd y;
     numbers = w .numbers;
@@ -249,14 +251,14 @@ module _ (R : Rules) (ok : RulesLaws R) where
 
   stays-act : (l : Ledger) (c : Call) → WellFormed R l → refusal R (viewL l) c ≡ 0 → WellFormed R (acceptL R l c .next)
   unfolding acceptL
-  stays-act l (callOpen c fuel kind fix entry) w e = stays-open l c fuel kind fix entry w e
-  stays-act l (callBill b) w e = stays-bill l b w e
-  stays-act l (callRebill b) w e = stays-rebill l b w e
-  stays-act l (callCert c class effective) w e = stays-cert l c class effective w e
-  stays-act l (callCancel c first) w e = stays-cancel l c first w
-  stays-act l callClaim w e = stays-claim l w e
-  stays-act l (callReport c) w e = w
-  stays-act l callTotal w e = w
+  stays-act l (asked (Made.Open c fuel kind fix entry) book) w e = stays-open l c fuel kind fix entry book w e
+  stays-act l (asked (Made.Bill b) book) w e = stays-bill l b book w e
+  stays-act l (asked (Made.Rebill b) book) w e = stays-rebill l b book w e
+  stays-act l (asked (Made.Cert c class effective) book) w e = stays-cert l c class effective book w e
+  stays-act l (asked (Made.Cancel c first) book) w e = stays-cancel l c first book w
+  stays-act l (asked Made.Claim book) w e = stays-claim l book w e
+  stays-act l (asked (Made.Report c) book) w e = w
+  stays-act l (asked Made.Total book) w e = w
 
   pub stays : (l : Ledger) (c : Call) → WellFormed R l → WellFormed R (step R l c)
   unfolding step outcome

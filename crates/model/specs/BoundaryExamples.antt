@@ -11,11 +11,12 @@ use Rattle.basics.specs.Lists.{All}
 use Rattle.rates.specs.declared.Bill.{Bill}
 use Rattle.model.specs.Codes.{opening}
 use Rattle.model.specs.Contracts.{noContracts, putContract}
-use Rattle.model.specs.Calls.{Call, callOpen, callBill, callRebill, callCert, callCancel, callClaim, callReport, BillRequest}
+use Rattle.model.specs.declared.Call.{Call as Made}
+use Rattle.model.specs.Calls.{Call, callOpen, callCert, callCancel, callClaim, callReport, requestOf, asked}
 use Rattle.model.specs.Rules.{refusal}
 use Rattle.model.specs.Document01.{document01}
 use Rattle.model.specs.Sheet.{Sheet, view}
-use Rattle.model.specs.Run.{zeroBookRequest}
+use Rattle.model.specs.Run.{zeroBook}
 
 -- a call made on a sheet, and the number that turns it down
 pub record Boundary : Type 0 where
@@ -50,10 +51,6 @@ holding n = sheetWith 0 (replicate n (standing 1 486 486)) 0
 unfoldable pub claiming : ℕ → Sheet
 claiming n = sheetWith 0 [] n
 
--- a bill or rebill with another book
-unfoldable pub withBook : List ℕ → BillRequest → BillRequest
-withBook book q = record { contract = q .contract; first = q .first; last = q .last; kwh = q .kwh; supply = q .supply; wap = q .wap; book = book }
-
 -- a price of contract 1 in April 2023: entry 1,716 of the book
 unfoldable pub april : List ℕ
 april = replicate 1716 0 ++ (1 ∷ replicate 23 0)
@@ -61,10 +58,10 @@ april = replicate 1716 0 ++ (1 ∷ replicate 23 0)
 -- 3: the book isn't 1,740 entries or has one above 999,999
 unfoldable pub atNumber3 : List Boundary
 atNumber3 =
-    (callBill (withBook (replicate 1739 0) (zeroBookRequest 0 486 499 1 1 1)) on britain gives 3)
-    ∷ (callBill (withBook (replicate 1741 0) (zeroBookRequest 0 486 499 1 1 1)) on britain gives 3)
-    ∷ (callBill (withBook (1000000 ∷ replicate 1739 0) (zeroBookRequest 0 486 499 1 1 1)) on britain gives 3)
-    ∷ (callBill (withBook (999999 ∷ replicate 1739 0) (zeroBookRequest 0 486 499 1 1 1)) on britain gives 0)
+    (asked (Made.Bill (requestOf 0 486 499 1 1 1)) (replicate 1739 0) on britain gives 3)
+    ∷ (asked (Made.Bill (requestOf 0 486 499 1 1 1)) (replicate 1741 0) on britain gives 3)
+    ∷ (asked (Made.Bill (requestOf 0 486 499 1 1 1)) (1000000 ∷ replicate 1739 0) on britain gives 3)
+    ∷ (asked (Made.Bill (requestOf 0 486 499 1 1 1)) (999999 ∷ replicate 1739 0) on britain gives 0)
     ∷ []
 
 -- 4: the contract number is above 63
@@ -102,21 +99,21 @@ atNumber7 =
     ∷ (callCert 0 2 511 on britain gives 0)
     ∷ (callCert 0 0 1 on britain gives 7)
     ∷ (callCert 0 0 0 on britain gives 0)
-    ∷ (callBill (zeroBookRequest 0 485 499 1 1 1) on britain gives 7)
-    ∷ (callBill (zeroBookRequest 0 486 499 1 1 1) on britain gives 0)
-    ∷ (callBill (zeroBookRequest 0 851 852 1 1 1) on britain gives 7)
-    ∷ (callBill (zeroBookRequest 0 851 851 1 1 1) on britain gives 0)
-    ∷ (callBill (zeroBookRequest 0 499 498 1 1 1) on britain gives 7)
+    ∷ (asked (Made.Bill (requestOf 0 485 499 1 1 1)) zeroBook on britain gives 7)
+    ∷ (asked (Made.Bill (requestOf 0 486 499 1 1 1)) zeroBook on britain gives 0)
+    ∷ (asked (Made.Bill (requestOf 0 851 852 1 1 1)) zeroBook on britain gives 7)
+    ∷ (asked (Made.Bill (requestOf 0 851 851 1 1 1)) zeroBook on britain gives 0)
+    ∷ (asked (Made.Bill (requestOf 0 499 498 1 1 1)) zeroBook on britain gives 7)
     ∷ []
 
 -- 8: kWh is above 100,000,000, S or WAP above 999,999, or a WAP not 0 where it must be
 unfoldable pub atNumber8 : List Boundary
 atNumber8 =
-    (callBill (zeroBookRequest 0 486 499 100000001 1 1) on britain gives 8)
-    ∷ (callBill (zeroBookRequest 0 486 499 1 1000000 1) on britain gives 8)
-    ∷ (callBill (zeroBookRequest 0 486 499 1 1 1000000) on britain gives 8)
-    ∷ (callBill (zeroBookRequest 0 486 499 100000000 999999 999999) on britain gives 0)
-    ∷ (callBill (withBook april (zeroBookRequest 1 486 515 1 1 1)) on britain gives 8)
+    (asked (Made.Bill (requestOf 0 486 499 100000001 1 1)) zeroBook on britain gives 8)
+    ∷ (asked (Made.Bill (requestOf 0 486 499 1 1000000 1)) zeroBook on britain gives 8)
+    ∷ (asked (Made.Bill (requestOf 0 486 499 1 1 1000000)) zeroBook on britain gives 8)
+    ∷ (asked (Made.Bill (requestOf 0 486 499 100000000 999999 999999)) zeroBook on britain gives 0)
+    ∷ (asked (Made.Bill (requestOf 1 486 515 1 1 1)) april on britain gives 8)
     ∷ []
 
 -- 9: no row of that contract has that first day
@@ -125,30 +122,30 @@ atNumber9 =
     (callCancel 0 501 on britain gives 9)
     ∷ (callCancel 1 500 on britain gives 9)
     ∷ (callCancel 0 500 on britain gives 0)
-    ∷ (callRebill (zeroBookRequest 0 501 501 1 1 1) on britain gives 9)
+    ∷ (asked (Made.Rebill (requestOf 0 501 501 1 1 1)) zeroBook on britain gives 9)
     ∷ []
 
 -- 10: another row of the contract shares a day with the span
 unfoldable pub atNumber10 : List Boundary
 atNumber10 =
-    (callBill (zeroBookRequest 0 510 599 1 1 1) on britain gives 10)
-    ∷ (callBill (zeroBookRequest 0 511 600 1 1 1) on britain gives 10)
-    ∷ (callBill (zeroBookRequest 0 511 599 1 1 1) on britain gives 0)
-    ∷ (callRebill (zeroBookRequest 0 500 600 1 1 1) on britain gives 10)
-    ∷ (callRebill (zeroBookRequest 0 500 599 1 1 1) on britain gives 0)
+    (asked (Made.Bill (requestOf 0 510 599 1 1 1)) zeroBook on britain gives 10)
+    ∷ (asked (Made.Bill (requestOf 0 511 600 1 1 1)) zeroBook on britain gives 10)
+    ∷ (asked (Made.Bill (requestOf 0 511 599 1 1 1)) zeroBook on britain gives 0)
+    ∷ (asked (Made.Rebill (requestOf 0 500 600 1 1 1)) zeroBook on britain gives 10)
+    ∷ (asked (Made.Rebill (requestOf 0 500 599 1 1 1)) zeroBook on britain gives 0)
     ∷ []
 
 -- 11: the book's price needed is 0; a flexible contract needs none
 unfoldable pub atNumber11 : List Boundary
 atNumber11 =
-    (callBill (withBook april (zeroBookRequest 1 516 545 1 1 0)) on britain gives 11)
-    ∷ (callBill (withBook april (zeroBookRequest 1 515 515 1 1 0)) on britain gives 0)
-    ∷ (callBill (zeroBookRequest 0 486 499 1 1 0) on britain gives 0)
+    (asked (Made.Bill (requestOf 1 516 545 1 1 0)) april on britain gives 11)
+    ∷ (asked (Made.Bill (requestOf 1 515 515 1 1 0)) april on britain gives 0)
+    ∷ (asked (Made.Bill (requestOf 0 486 499 1 1 0)) zeroBook on britain gives 0)
     ∷ []
 
 -- 12: 1,024 rows are held already
 unfoldable pub atNumber12 : List Boundary
-atNumber12 = (callBill (zeroBookRequest 0 486 499 1 1 1) on holding 1024 gives 12) ∷ (callBill (zeroBookRequest 0 486 499 1 1 1) on holding 1023 gives 0) ∷ []
+atNumber12 = (asked (Made.Bill (requestOf 0 486 499 1 1 1)) zeroBook on holding 1024 gives 12) ∷ (asked (Made.Bill (requestOf 0 486 499 1 1 1)) zeroBook on holding 1023 gives 0) ∷ []
 
 -- 13: 1,000 claims were made already
 unfoldable pub atNumber13 : List Boundary
@@ -157,15 +154,15 @@ atNumber13 = (callClaim on claiming 1000 gives 13) ∷ (callClaim on claiming 99
 -- calls that two tests or more turn down: the number is the first in checking order
 unfoldable pub inCheckingOrder : List Boundary
 inCheckingOrder =
-    (callBill (withBook (replicate 1739 0) (zeroBookRequest 64 486 499 1 1 1)) on britain gives 3)
+    (asked (Made.Bill (requestOf 64 486 499 1 1 1)) (replicate 1739 0) on britain gives 3)
     ∷ (callOpen 64 2 0 0 0 on britain gives 4)
     ∷ (callOpen 1 2 0 0 0 on britain gives 5)
     ∷ (callOpen 2 2 0 852 0 on britain gives 6)
-    ∷ (callBill (zeroBookRequest 0 485 499 100000001 1 1) on britain gives 7)
-    ∷ (callRebill (zeroBookRequest 0 501 501 100000001 1 1) on britain gives 8)
-    ∷ (callRebill (zeroBookRequest 0 501 501 1 1 1) on britain gives 9)
-    ∷ (callBill (zeroBookRequest 1 486 486 1 1 0) on holding 1 gives 10)
-    ∷ (callBill (zeroBookRequest 1 487 487 1 1 0) on holding 1024 gives 11)
+    ∷ (asked (Made.Bill (requestOf 0 485 499 100000001 1 1)) zeroBook on britain gives 7)
+    ∷ (asked (Made.Rebill (requestOf 0 501 501 100000001 1 1)) zeroBook on britain gives 8)
+    ∷ (asked (Made.Rebill (requestOf 0 501 501 1 1 1)) zeroBook on britain gives 9)
+    ∷ (asked (Made.Bill (requestOf 1 486 486 1 1 0)) zeroBook on holding 1 gives 10)
+    ∷ (asked (Made.Bill (requestOf 1 487 487 1 1 0)) zeroBook on holding 1024 gives 11)
     ∷ []
 
 -- the number that turns the call down is the one given

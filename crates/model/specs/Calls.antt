@@ -6,35 +6,46 @@ use lib.Dec.{leb, eqb}
 use lib.IntN.{ℤ, pos}
 use Rattle.rates.specs.declared.Contract.{Contract}
 use Rattle.rates.specs.declared.Bill.{Bill}
+use Rattle.model.specs.declared.Request.{Request}
+use Rattle.model.specs.declared.Call.{Call as Made}
 use Rattle.model.specs.declared.Answer.{Answer}
 use Rattle.model.specs.declared.Answer.the-variants.{Refused, Done, Billed, Rebilled, Certified, Cancelled, Claimed, Reported, Totalled}
+use Rattle.model.specs.declared.Told.{Told}
 use Rattle.model.specs.Contracts.{Contracts, contractAt}
 use Rattle.model.specs.Book.{reference}
 
--- the numbers of a bill or rebill, and the book that it brings
-pub record BillRequest : Type 0 where
-  pub contract : ℕ
-  pub first : ℕ
-  pub last : ℕ
-  pub kwh : ℕ
-  pub supply : ℕ
-  pub wap : ℕ
-  pub book : List ℕ
-
--- such a request, by its numbers in the paper's order and its book
-abbrev pub request : (contract first last kwh supply wap : ℕ) → (book : List ℕ) → BillRequest
-request contract first last kwh supply wap book = record { contract = contract; first = first; last = last; kwh = kwh; supply = supply; wap = wap; book = book }
-
--- the eight calls of a history
+-- a call of a history, with the book that it is made with
 pub data Call : Type 0 where
-  callOpen : (contract fuel kind priceFixDay entryDay : ℕ) → Call
-  callBill : BillRequest → Call
-  callRebill : BillRequest → Call
-  callCert : (contract class effectiveDay : ℕ) → Call
-  callCancel : (contract first : ℕ) → Call
-  callClaim : Call
-  callReport : (contract : ℕ) → Call
-  callTotal : Call
+  asked : Made → (book : List ℕ) → Call
+
+-- the numbers of a bill or rebill in the paper's order
+abbrev pub requestOf : (contract first last kwh supply wap : ℕ) → Request
+requestOf contract first last kwh supply wap = record { contract = contract; first = first; last = last; kwh = kwh; supply = supply; wap = wap }
+
+-- the calls that read no book, each with none
+abbrev pub callOpen : (contract fuel kind priceFixDay entryDay : ℕ) → Call
+callOpen c fuel kind fix entry = asked (Made.Open c fuel kind fix entry) []
+
+abbrev pub callBill : Request → (book : List ℕ) → Call
+callBill q book = asked (Made.Bill q) book
+
+abbrev pub callRebill : Request → (book : List ℕ) → Call
+callRebill q book = asked (Made.Rebill q) book
+
+abbrev pub callCert : (contract class effectiveDay : ℕ) → Call
+callCert c class effective = asked (Made.Cert c class effective) []
+
+abbrev pub callCancel : (contract first : ℕ) → Call
+callCancel c first = asked (Made.Cancel c first) []
+
+abbrev pub callClaim : Call
+callClaim = asked Made.Claim []
+
+abbrev pub callReport : (contract : ℕ) → Call
+callReport c = asked (Made.Report c) []
+
+abbrev pub callTotal : Call
+callTotal = asked Made.Total []
 
 -- ---- answers
 
@@ -61,6 +72,26 @@ answerValues (Cancelled change) = change ∷ pos 0 ∷ pos 0 ∷ []
 answerValues (Claimed pence rest) = pence ∷ pos rest ∷ pos 0 ∷ []
 answerValues (Reported rows kwh due) = pos rows ∷ pos kwh ∷ pos due ∷ []
 answerValues (Totalled due unclaimed) = pos due ∷ unclaimed ∷ pos 0 ∷ []
+
+-- how many of them the paper has for the answer
+abbrev pub valueCount : Answer → ℕ
+valueCount (Refused n) = 0
+valueCount Done = 0
+valueCount (Billed r rate amount) = 3
+valueCount (Rebilled r rate change) = 3
+valueCount (Certified change rows) = 2
+valueCount (Cancelled change) = 1
+valueCount (Claimed pence rest) = 2
+valueCount (Reported rows kwh due) = 3
+valueCount (Totalled due unclaimed) = 2
+
+-- what is told of an answer
+abbrev pub toldOf : Answer → Told
+toldOf a = record { refused = refusalNumber a; count = valueCount a; numbers = answerValues a }
+
+-- a refusal by its number, which is 0 where nothing is answered but ok
+abbrev pub toldNumber : ℕ → Told
+toldNumber n = record { refused = n; count = 0; numbers = pos 0 ∷ pos 0 ∷ pos 0 ∷ [] }
 
 -- the customer's signed amount: the amount of bill, and the differences of rebill, cert and cancel, zero where refused
 abbrev pub customerAmount : Answer → ℤ
@@ -120,15 +151,15 @@ firstOf (t ∷ ts) = cond (t .fits) (t .number) (firstOf ts)
 -- ---- what an accepted call brings
 
 -- the bill of a bill or rebill under its contract: R from its own book or WAP
-abbrev pub billUnder : Contract → BillRequest → Bill
-billUnder k q = record {
+abbrev pub billUnder : Contract → Request → (book : List ℕ) → Bill
+billUnder k q book = record {
   contract = q .contract;
   first = q .first;
   last = q .last;
   kwh = q .kwh;
-  reference = reference k (q .first) (q .wap) (q .book);
+  reference = reference k (q .first) (q .wap) book;
   supply = q .supply;
 }
 
-unfoldable pub requestedBill : Contracts → BillRequest → Bill
-requestedBill cs q = billUnder (contractAt cs (q .contract)) q
+unfoldable pub requestedBill : Contracts → Request → (book : List ℕ) → Bill
+requestedBill cs q book = billUnder (contractAt cs (q .contract)) q book

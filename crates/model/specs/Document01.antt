@@ -12,7 +12,9 @@ use Rattle.rates.specs.Rates.{rate, cap, amount}
 use Rattle.model.specs.Codes.{fuelCode, kindCode, priceFixDay, entryDay, isFlexible, classCode, effectiveDay}
 use Rattle.model.specs.Contracts.{contractAt, isOpen}
 use Rattle.model.specs.Book.{reference}
-use Rattle.model.specs.Calls.{Call, callOpen, callBill, callRebill, callCert, callCancel, callClaim, callReport, callTotal, BillRequest, View, Test, _if_, named, sharing}
+use Rattle.model.specs.declared.Call.{Call as Made}
+use Rattle.model.specs.declared.Request.{Request}
+use Rattle.model.specs.Calls.{Call, View, Test, _if_, named, sharing, asked}
 use Rattle.model.specs.Rules.{Rules}
 
 -- 3: the book isn't 1,740 entries or has one above 999,999
@@ -44,55 +46,55 @@ unfoldable pub badSpan : (first last : ℕ) → Bool
 badSpan first last = not (leb 486 first && (leb first last && leb last 851))
 
 -- 8: kWh is above 100,000,000, S or WAP above 999,999, or a WAP not 0 where it must be (0 unless flexible)
-unfoldable pub badAmounts : Contract → BillRequest → Bool
+unfoldable pub badAmounts : Contract → Request → Bool
 badAmounts k q = ltb 100000000 (q .kwh) || (ltb 999999 (q .supply) || (ltb 999999 (q .wap) || (not (isFlexible (k .kind)) && not (eqb (q .wap) 0))))
 
 -- 11: the book's price needed is 0
-unfoldable pub noPrice : Contract → BillRequest → Bool
-noPrice k q = not (isFlexible (k .kind)) && eqb (reference k (q .first) (q .wap) (q .book)) 0
+unfoldable pub noPrice : Contract → Request → (book : List ℕ) → Bool
+noPrice k q book = not (isFlexible (k .kind)) && eqb (reference k (q .first) (q .wap) book) 0
 
 -- the tests of each call, in checking order (number 1 is the program's, and number 2 meets no call of a history)
 unfoldable pub tests : View → Call → List Test
-tests v (callOpen c fuel kind fix entry) =
+tests v (asked (Made.Open c fuel kind fix entry) book) =
     (4 if badNumber c)
     ∷ (5 if isOpen (v .contracts) c)
     ∷ (6 if badKind (v .territory) fuel kind)
     ∷ (7 if badDays kind fix entry)
     ∷ []
-tests v (callBill q) =
-    (3 if badBook (q .book))
+tests v (asked (Made.Bill q) book) =
+    (3 if badBook book)
     ∷ (4 if badNumber (q .contract))
     ∷ (5 if not (isOpen (v .contracts) (q .contract)))
     ∷ (7 if badSpan (q .first) (q .last))
     ∷ (8 if badAmounts (contractAt (v .contracts) (q .contract)) q)
     ∷ (10 if ltb 0 (v .held (sharing (q .contract) (q .first) (q .last))))
-    ∷ (11 if noPrice (contractAt (v .contracts) (q .contract)) q)
+    ∷ (11 if noPrice (contractAt (v .contracts) (q .contract)) q book)
     ∷ (12 if leb 1024 (v .held (λ b. true)))
     ∷ []
-tests v (callRebill q) =
-    (3 if badBook (q .book))
+tests v (asked (Made.Rebill q) book) =
+    (3 if badBook book)
     ∷ (4 if badNumber (q .contract))
     ∷ (5 if not (isOpen (v .contracts) (q .contract)))
     ∷ (7 if badSpan (q .first) (q .last))
     ∷ (8 if badAmounts (contractAt (v .contracts) (q .contract)) q)
     ∷ (9 if not (ltb 0 (v .held (named (q .contract) (q .first)))))
     ∷ (10 if ltb 0 (v .held (λ b. sharing (q .contract) (q .first) (q .last) b && not (named (q .contract) (q .first) b))))
-    ∷ (11 if noPrice (contractAt (v .contracts) (q .contract)) q)
+    ∷ (11 if noPrice (contractAt (v .contracts) (q .contract)) q book)
     ∷ []
-tests v (callCert c class effective) =
+tests v (asked (Made.Cert c class effective) book) =
     (4 if badNumber c)
     ∷ (5 if not (isOpen (v .contracts) c))
     ∷ (6 if badClass class)
     ∷ (7 if badEffective class effective)
     ∷ []
-tests v (callCancel c first) =
+tests v (asked (Made.Cancel c first) book) =
     (4 if badNumber c)
     ∷ (5 if not (isOpen (v .contracts) c))
     ∷ (9 if not (ltb 0 (v .held (named c first))))
     ∷ []
-tests v callClaim = (13 if leb 1000 (v .claims)) ∷ []
-tests v (callReport c) = (4 if badNumber c) ∷ (5 if not (isOpen (v .contracts) c)) ∷ []
-tests v callTotal = []
+tests v (asked Made.Claim book) = (13 if leb 1000 (v .claims)) ∷ []
+tests v (asked (Made.Report c) book) = (4 if badNumber c) ∷ (5 if not (isOpen (v .contracts) c)) ∷ []
+tests v (asked Made.Total book) = []
 
 -- ---- the ranges of a well-formed ledger
 

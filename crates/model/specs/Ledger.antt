@@ -12,7 +12,8 @@ use Rattle.model.specs.declared.Answer.{Answer}
 use Rattle.model.specs.declared.Answer.the-variants.{Refused, Done, Billed, Rebilled, Certified, Cancelled, Claimed, Reported, Totalled}
 use Rattle.model.specs.Codes.{opening, certify}
 use Rattle.model.specs.Contracts.{Contracts, noContracts, contractAt, putContract}
-use Rattle.model.specs.Calls.{Call, callOpen, callBill, callRebill, callCert, callCancel, callClaim, callReport, callTotal, View, named, requestedBill}
+use Rattle.model.specs.declared.Call.{Call as Made}
+use Rattle.model.specs.Calls.{Call, View, named, requestedBill, asked}
 use Rattle.model.specs.Rules.{Rules, refusal}
 
 -- the facts that a ledger holds
@@ -94,7 +95,7 @@ module _ (R : Rules) where
 
   -- what each call leaves and answers where nothing turns it down
   unfoldable pub accept : Ledger → Call → Outcome
-  accept l (callOpen c fuel kind fix entry) = record {
+  accept l (asked (Made.Open c fuel kind fix entry) book) = record {
     next = record {
       territory = l .territory;
       contracts = putContract (l .contracts) c (opening fuel kind fix entry);
@@ -104,36 +105,36 @@ module _ (R : Rules) where
     };
     answers = Done;
   }
-  accept l (callBill q) =
+  accept l (asked (Made.Bill q) book) =
       let k = contractAt (l .contracts) (q .contract) in
-      let b = requestedBill (l .contracts) q in
+      let b = requestedBill (l .contracts) q book in
       record { next = withRows l (insert (priced k b) (l .rows)); answers = Billed (b .reference) (R .rate k b) (priced k b .amount) }
-  accept l (callRebill q) =
+  accept l (asked (Made.Rebill q) book) =
       let k = contractAt (l .contracts) (q .contract) in
-      let b = requestedBill (l .contracts) q in
+      let b = requestedBill (l .contracts) q book in
       let p = named (q .contract) (q .first) in
       record {
         next = withRows l (replace p (priced k b) (l .rows));
         answers = Rebilled (b .reference) (R .rate k b) (subℕ (priced k b .amount) (amountOf p (l .rows)));
       }
-  accept l (callCert c class effective) =
+  accept l (asked (Made.Cert c class effective) book) =
       let k = certify (contractAt (l .contracts) c) class effective in
       let xs = map (rerated c k) (l .rows) in
       record {
         next = record { territory = l .territory; contracts = putContract (l .contracts) c k; rows = xs; claims = l .claims; pence = l .pence };
         answers = Certified (subℕ (total (λ x. x .amount) xs) (due l)) (count (λ x. not (eqb (rerated c k x .amount) (x .amount))) (l .rows));
       }
-  accept l (callCancel c first) =
+  accept l (asked (Made.Cancel c first) book) =
       record { next = withRows l (remove (named c first) (l .rows)); answers = Cancelled (subℕ 0 (amountOf (named c first) (l .rows))) }
-  accept l callClaim = record {
+  accept l (asked Made.Claim book) = record {
     next = record { territory = l .territory; contracts = l .contracts; rows = l .rows; claims = suc (l .claims); pence = due l / 10000 };
     answers = Claimed (subℕ (due l / 10000) (l .pence)) (due l % 10000);
   }
-  accept l (callReport c) = record {
+  accept l (asked (Made.Report c) book) = record {
     next = l;
     answers = Reported (count (ofContract c) (l .rows)) (total (λ x. cond (ofContract c x) (x .bill .kwh) 0) (l .rows)) (total (λ x. cond (ofContract c x) (x .amount) 0) (l .rows));
   }
-  accept l callTotal = record { next = l; answers = Totalled (due l) (subℕ (due l) (10000 * l .pence)) }
+  accept l (asked Made.Total book) = record { next = l; answers = Totalled (due l) (subℕ (due l) (10000 * l .pence)) }
 
   unfoldable pub outcome : Ledger → Call → Outcome
   outcome l c = unlessRefused (refusal R (view l) c) l (accept l c)

@@ -12,7 +12,8 @@ use Rattle.model.specs.declared.Answer.{Answer}
 use Rattle.model.specs.declared.Answer.the-variants.{Refused, Done, Billed, Rebilled, Certified, Cancelled, Claimed, Reported, Totalled}
 use Rattle.model.specs.Codes.{certify}
 use Rattle.model.specs.Contracts.{Contracts, contractAt, putContract}
-use Rattle.model.specs.Calls.{Call, callOpen, callBill, callRebill, callCert, callCancel, callClaim, callReport, callTotal, named, requestedBill, customerAmount, claimPence}
+use Rattle.model.specs.declared.Call.{Call as Made}
+use Rattle.model.specs.Calls.{Call, named, requestedBill, customerAmount, claimPence, asked}
 use Rattle.model.specs.Rules.{Rules, refusal, partOfDue}
 use Rattle.model.specs.Sheet
 use Rattle.model.specs.Sheet.{Sheet, blank, view, strikeOut}
@@ -81,38 +82,38 @@ reversals R cs bs = map (λ b. negℤ (pos (partOfDue R cs b))) bs
 
 -- what each call posts where nothing turns it down
 unfoldable pub posts : Rules → Sheet → Call → List ℤ
-posts R s (callOpen c fuel kind fix entry) = []
-posts R s (callBill q) = issues R (s .contracts) (requestedBill (s .contracts) q ∷ [])
-posts R s (callRebill q) = reversals R (s .contracts) (passing (named (q .contract) (q .first)) (s .bills)) ++ issues R (s .contracts) (requestedBill (s .contracts) q ∷ [])
-posts R s (callCert c class effective) =
+posts R s (asked (Made.Open c fuel kind fix entry) book) = []
+posts R s (asked (Made.Bill q) book) = issues R (s .contracts) (requestedBill (s .contracts) q book ∷ [])
+posts R s (asked (Made.Rebill q) book) = reversals R (s .contracts) (passing (named (q .contract) (q .first)) (s .bills)) ++ issues R (s .contracts) (requestedBill (s .contracts) q book ∷ [])
+posts R s (asked (Made.Cert c class effective) book) =
     let bs = passing (λ b. eqb (b .contract) c) (s .bills) in
     reversals R (s .contracts) bs ++ issues R (putContract (s .contracts) c (certify (contractAt (s .contracts) c) class effective)) bs
-posts R s (callCancel c first) = reversals R (s .contracts) (passing (named c first) (s .bills))
-posts R s callClaim = []
-posts R s (callReport c) = []
-posts R s callTotal = []
+posts R s (asked (Made.Cancel c first) book) = reversals R (s .contracts) (passing (named c first) (s .bills))
+posts R s (asked Made.Claim book) = []
+posts R s (asked (Made.Report c) book) = []
+posts R s (asked Made.Total book) = []
 
 -- the rate that a call answers where nothing turns it down
 unfoldable pub acceptedRate : Rules → Sheet → Call → ℕ
-acceptedRate R s (callOpen c fuel kind fix entry) = 0
-acceptedRate R s (callBill q) = R .rate (contractAt (s .contracts) (q .contract)) (requestedBill (s .contracts) q)
-acceptedRate R s (callRebill q) = R .rate (contractAt (s .contracts) (q .contract)) (requestedBill (s .contracts) q)
-acceptedRate R s (callCert c class effective) = 0
-acceptedRate R s (callCancel c first) = 0
-acceptedRate R s callClaim = 0
-acceptedRate R s (callReport c) = 0
-acceptedRate R s callTotal = 0
+acceptedRate R s (asked (Made.Open c fuel kind fix entry) book) = 0
+acceptedRate R s (asked (Made.Bill q) book) = R .rate (contractAt (s .contracts) (q .contract)) (requestedBill (s .contracts) q book)
+acceptedRate R s (asked (Made.Rebill q) book) = R .rate (contractAt (s .contracts) (q .contract)) (requestedBill (s .contracts) q book)
+acceptedRate R s (asked (Made.Cert c class effective) book) = 0
+acceptedRate R s (asked (Made.Cancel c first) book) = 0
+acceptedRate R s (asked Made.Claim book) = 0
+acceptedRate R s (asked (Made.Report c) book) = 0
+acceptedRate R s (asked Made.Total book) = 0
 
 -- the pence that a claim answers where nothing turns it down: the floor of the sum, less the pence claimed before
 unfoldable pub acceptedPence : Postings → Call → ℤ
-acceptedPence p (callOpen c fuel kind fix entry) = pos 0
-acceptedPence p (callBill q) = pos 0
-acceptedPence p (callRebill q) = pos 0
-acceptedPence p (callCert c class effective) = pos 0
-acceptedPence p (callCancel c first) = pos 0
-acceptedPence p callClaim = floorPence (sumPosted (p .posted)) -ℤ p .claimed
-acceptedPence p (callReport c) = pos 0
-acceptedPence p callTotal = pos 0
+acceptedPence p (asked (Made.Open c fuel kind fix entry) book) = pos 0
+acceptedPence p (asked (Made.Bill q) book) = pos 0
+acceptedPence p (asked (Made.Rebill q) book) = pos 0
+acceptedPence p (asked (Made.Cert c class effective) book) = pos 0
+acceptedPence p (asked (Made.Cancel c first) book) = pos 0
+acceptedPence p (asked Made.Claim book) = floorPence (sumPosted (p .posted)) -ℤ p .claimed
+acceptedPence p (asked (Made.Report c) book) = pos 0
+acceptedPence p (asked Made.Total book) = pos 0
 
 -- what a call leaves and answers; one that is turned down, by the same tests on the module's own facts, posts nothing and answers zeros
 module _ (R : Rules) where

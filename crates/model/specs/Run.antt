@@ -1,32 +1,34 @@
 -- Document 01, "The program and one run": the run's ten calls as a history of a Great Britain ledger, and its ten answers. Assumes nothing.
 use mathlib.Core.Path.{_≡_}
-use mathlib.Core.List.{List, [], _∷_}
+use mathlib.Core.List.{List, [], _∷_, map}
 use Prim.Native.Nat.{ℕ}
 use lib.ListN.{replicate}
 use lib.IntN.{pos, negℤ}
 use Rattle.model.specs.declared.Answer.{Answer}
 use Rattle.model.specs.declared.Answer.the-variants.{Refused, Done, Billed, Rebilled, Certified, Cancelled, Claimed, Totalled}
-use Rattle.model.specs.Calls.{Call, callOpen, callBill, callRebill, callCert, callCancel, callClaim, callTotal, BillRequest, request}
+use Rattle.model.specs.declared.Call.{Call as Made}
+use Rattle.model.specs.Calls.{Call, asked, requestOf}
 use Rattle.model.specs.Document01.{document01}
 use Rattle.model.specs.History.{answersTo, ledgerMachine}
 
--- a bill or rebill of the run, with a book of zeros
-unfoldable pub zeroBookRequest : (contract first last kwh supply wap : ℕ) → BillRequest
-zeroBookRequest contract first last kwh supply wap = request contract first last kwh supply wap (replicate 1740 0)
+-- a book of zeros
+unfoldable pub zeroBook : List ℕ
+zeroBook = replicate 1740 0
 
+-- the run's calls, each with a book of zeros
 unfoldable pub runCalls : List Call
-runCalls =
-    callOpen 0 0 2 0 0
-    ∷ callBill (zeroBookRequest 0 486 515 1000 67030 31980)
-    ∷ callClaim
-    ∷ callCert 0 1 486
-    ∷ callClaim
-    ∷ callRebill (zeroBookRequest 0 486 515 901 67030 31980)
-    ∷ callClaim
-    ∷ callCancel 0 486
-    ∷ callTotal
-    ∷ callBill (zeroBookRequest 64 486 515 1 1 1)
-    ∷ []
+runCalls = map (λ c. asked c zeroBook) (
+    Made.Open 0 0 2 0 0
+    ∷ Made.Bill (requestOf 0 486 515 1000 67030 31980)
+    ∷ Made.Claim
+    ∷ Made.Cert 0 1 486
+    ∷ Made.Claim
+    ∷ Made.Rebill (requestOf 0 486 515 901 67030 31980)
+    ∷ Made.Claim
+    ∷ Made.Cancel 0 486
+    ∷ Made.Total
+    ∷ Made.Bill (requestOf 64 486 515 1 1 1)
+    ∷ [])
 
 unfoldable pub runAnswers : List Answer
 runAnswers =

@@ -7,7 +7,8 @@ use Rattle.rates.specs.declared.Contract.{Contract}
 use Rattle.rates.specs.declared.Bill.{Bill}
 use Rattle.model.specs.Codes.{opening, certify}
 use Rattle.model.specs.Contracts.{Contracts, noContracts, contractAt, putContract}
-use Rattle.model.specs.Calls.{Call, callOpen, callBill, callRebill, callCert, callCancel, callClaim, callReport, callTotal, View, named, requestedBill}
+use Rattle.model.specs.declared.Call.{Call as Made}
+use Rattle.model.specs.Calls.{Call, View, named, requestedBill, asked}
 use Rattle.model.specs.Rules.{Rules, refusal, partOfDue}
 
 -- contracts, bills in no order, and a count of claims
@@ -41,14 +42,14 @@ withContract s c k = record { territory = s .territory; contracts = putContract 
 
 -- what each call does to the sheet where nothing turns it down
 unfoldable pub accept : Sheet → Call → Sheet
-accept s (callOpen c fuel kind fix entry) = withContract s c (opening fuel kind fix entry)
-accept s (callBill q) = withBills s (requestedBill (s .contracts) q ∷ s .bills)
-accept s (callRebill q) = withBills s (map (inPlaceOf (named (q .contract) (q .first)) (requestedBill (s .contracts) q)) (s .bills))
-accept s (callCert c class effective) = withContract s c (certify (contractAt (s .contracts) c) class effective)
-accept s (callCancel c first) = withBills s (strikeOut (named c first) (s .bills))
-accept s callClaim = record { territory = s .territory; contracts = s .contracts; bills = s .bills; claims = suc (s .claims) }
-accept s (callReport c) = s
-accept s callTotal = s
+accept s (asked (Made.Open c fuel kind fix entry) book) = withContract s c (opening fuel kind fix entry)
+accept s (asked (Made.Bill q) book) = withBills s (requestedBill (s .contracts) q book ∷ s .bills)
+accept s (asked (Made.Rebill q) book) = withBills s (map (inPlaceOf (named (q .contract) (q .first)) (requestedBill (s .contracts) q book)) (s .bills))
+accept s (asked (Made.Cert c class effective) book) = withContract s c (certify (contractAt (s .contracts) c) class effective)
+accept s (asked (Made.Cancel c first) book) = withBills s (strikeOut (named c first) (s .bills))
+accept s (asked Made.Claim book) = record { territory = s .territory; contracts = s .contracts; bills = s .bills; claims = suc (s .claims) }
+accept s (asked (Made.Report c) book) = s
+accept s (asked Made.Total book) = s
 
 -- a call that is turned down leaves the sheet as it was
 abbrev pub unlessRefused : ℕ → Sheet → Sheet → Sheet

@@ -11,7 +11,8 @@ use Rattle.basics.specs.Integers.{sumℤ}
 use Rattle.model.specs.declared.Answer.{Answer}
 use Rattle.model.specs.declared.Answer.the-variants.{Refused, Done, Billed, Rebilled, Certified, Cancelled, Claimed, Reported, Totalled}
 use Rattle.model.specs.Contracts.{contractAt}
-use Rattle.model.specs.Calls.{Call, callOpen, callBill, callRebill, callCert, callCancel, callClaim, callReport, callTotal, named, requestedBill, claimPence}
+use Rattle.model.specs.declared.Call.{Call as Made}
+use Rattle.model.specs.Calls.{Call, callCert, callClaim, callTotal, named, requestedBill, claimPence, asked}
 use Rattle.model.specs.Rules.{Rules, refusal, partOfDue}
 use Rattle.model.specs.Sheet.{Sheet, view, accept, due}
 use Rattle.model.specs.History.{Machine, sheetAfter, stateAfter, answersTo}
@@ -28,24 +29,24 @@ module _ (R : Rules) where
 
   -- what each call answers where nothing turns it down
   unfoldable pub acceptedAnswer : Sheet → (pence : ℤ) → Call → Answer
-  acceptedAnswer s pence (callOpen c fuel kind fix entry) = Done
-  acceptedAnswer s pence (callBill q) =
-      let b = requestedBill (s .contracts) q in
+  acceptedAnswer s pence (asked (Made.Open c fuel kind fix entry) book) = Done
+  acceptedAnswer s pence (asked (Made.Bill q) book) =
+      let b = requestedBill (s .contracts) q book in
       Billed (b .reference) (R .rate (contractAt (s .contracts) (q .contract)) b) (partOfDue R (s .contracts) b)
-  acceptedAnswer s pence (callRebill q) =
-      let b = requestedBill (s .contracts) q in
+  acceptedAnswer s pence (asked (Made.Rebill q) book) =
+      let b = requestedBill (s .contracts) q book in
       Rebilled (b .reference) (R .rate (contractAt (s .contracts) (q .contract)) b) (subℕ (partOfDue R (s .contracts) b) (namedPart s (q .contract) (q .first)))
   -- the net change of due, and how many standing bills have another part than before
-  acceptedAnswer s pence (callCert c class effective) =
-      let after = accept s (callCert c class effective) in
+  acceptedAnswer s pence (asked (Made.Cert c class effective) book) =
+      let after = accept s (asked (Made.Cert c class effective) book) in
       Certified (subℕ (due R after) (due R s)) (count (λ b. not (eqb (partOfDue R (after .contracts) b) (partOfDue R (s .contracts) b))) (s .bills))
-  acceptedAnswer s pence (callCancel c first) = Cancelled (subℕ 0 (namedPart s c first))
-  acceptedAnswer s pence callClaim = Claimed (pos (due R s / 10000) -ℤ pence) (due R s % 10000)
-  acceptedAnswer s pence (callReport c) = Reported
+  acceptedAnswer s pence (asked (Made.Cancel c first) book) = Cancelled (subℕ 0 (namedPart s c first))
+  acceptedAnswer s pence (asked Made.Claim book) = Claimed (pos (due R s / 10000) -ℤ pence) (due R s % 10000)
+  acceptedAnswer s pence (asked (Made.Report c) book) = Reported
       (count (λ b. eqb (b .contract) c) (s .bills))
       (total (λ b. cond (eqb (b .contract) c) (b .kwh) 0) (s .bills))
       (total (λ b. cond (eqb (b .contract) c) (partOfDue R (s .contracts) b) 0) (s .bills))
-  acceptedAnswer s pence callTotal = Totalled (due R s) (pos (due R s) -ℤ pos 10000 *ℤ pence)
+  acceptedAnswer s pence (asked Made.Total book) = Totalled (due R s) (pos (due R s) -ℤ pos 10000 *ℤ pence)
 
   unfoldable pub sheetAnswer : Sheet → (pence : ℤ) → Call → Answer
   sheetAnswer s pence c = unlessRefused (refusal R (view s) c) (acceptedAnswer s pence c)

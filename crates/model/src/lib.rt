@@ -1,10 +1,47 @@
-// A held row and the answers of the ledger's calls. The rest of this crate is mathematics: specs/ and proofs/.
+// A held row, the calls of a history and their answers. The rest of this crate is mathematics: specs/ and proofs/.
 use rates::Bill;
 
 // A held row: a bill that stands, with its amount in ticks.
 pub struct Row {
     pub bill: Bill,
     pub amount: u64,
+}
+
+// The numbers of a bill or rebill.
+pub struct Request {
+    pub contract: u32,
+    pub first: u32,
+    pub last: u32,
+    pub kwh: u32,
+    pub supply: u32,
+    pub wap: u32,
+}
+
+// A call of a history, with its numbers.
+pub enum Call {
+    Open {
+        contract: u32,
+        fuel: u32,
+        kind: u32,
+        price_fix_day: u32,
+        entry_day: u32,
+    },
+    Bill(Request),
+    Rebill(Request),
+    Cert {
+        contract: u32,
+        class: u32,
+        effective_day: u32,
+    },
+    Cancel {
+        contract: u32,
+        first: u32,
+    },
+    Claim,
+    Report {
+        contract: u32,
+    },
+    Total,
 }
 
 // What a call answers: the number of a refusal, or the call's numbers.
@@ -41,4 +78,12 @@ pub enum Answer {
         due: u64,
         unclaimed: i64,
     },
+}
+
+// What is told of an answer: the number of the refusal, 0 where the call is accepted; how many numbers it has, and those in the
+// paper's order, zeros after them.
+pub struct Told {
+    pub refused: u32,
+    pub count: usize,
+    pub numbers: [i64; 3],
 }

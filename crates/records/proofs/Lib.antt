@@ -9,6 +9,9 @@ pub mod Zeros
 pub mod Pairs
 pub mod Numbered
 pub mod Places
+pub mod OneSlot
+pub mod Scan
+pub mod NumberSet
 pub mod Edits
 pub mod Arrays
 mod Vectors

@@ -2,6 +2,7 @@
 -- first in their array, `Numbered` slots by their number, `Pairs` tests of pairs, and `Edits` what the functions of this crate leave.
 pub mod Pack
 pub mod Slots
+pub mod OneSlot
 pub mod Places
 pub mod Numbered
 pub mod Pairs

@@ -1,7 +1,5 @@
 -- Laws of the lines, of the calls that change no byte, of the room that a reply takes, and of the loop over the lines.
-pub mod CommandGroups
 pub mod LedgerReplies
-pub mod UnchangedLedger
 pub mod ReplyRoom
 pub mod Lines
 pub mod SessionBalance

@@ -6,7 +6,8 @@ use native.Mathlib.Omega.{arith}
 use borrow.Author.Tests.{ne-eqb, lt-ltb, le-ltb}
 use lib.ListN.{length, take, drop, drop-of-length-le, length-drop, length-take}
 use Rattle.text.specs.declared.reading.Command.{Command}
-use Rattle.text.specs.declared.writing.Line.{Line}
+use Rattle.model.specs.Calls.{toldNumber}
+use Rattle.model.specs.declared.Told.{Told}
 use Rattle.text.specs.Bytes.{lineFeed}
 use Rattle.text.specs.Pieces.{pieces, bytesBefore, PieceEnds}
 use Rattle.text.specs.Commands.{commandOf}
@@ -25,9 +26,9 @@ pub printed-none : (s : State) → printedOf s [] ≡ []
 unfolding printed commandsOf commandsOfPieces pieces
 printed-none s = refl
 
-pub printed-unreadable : (s : State) → printed (exchanges s (Command.Unreadable ∷ [])) ≡ lineText (Line.Refused 1)
+pub printed-unreadable : (s : State) → printed (exchanges s (Command.Unreadable ∷ [])) ≡ lineText (toldNumber 1)
 unfolding printed outcome
-printed-unreadable s = append-nil (lineText (Line.Refused 1))
+printed-unreadable s = append-nil (lineText (toldNumber 1))
 
 commands-more : (line text : List ℕ) → commandsOfPieces (line ∷ pieces lineFeed text) ≡ commandOf line ∷ commandsOf text
 unfolding commandsOfPieces commandsOf
@@ -42,7 +43,7 @@ module _ (s : State) (text : List ℕ) (at end : ℕ) (h : PieceEnds lineFeed te
   unfolding printed commandsOf
   printed-line l = rw (next-piece lineFeed text at end h, some-after lineFeed text end l, commands-more lineAt (drop (end + 1) text))
 
-  printed-cut : at < length text → end ≡ length text → printedOf s (drop at text) ≡ lineText (Line.Refused 1)
+  printed-cut : at < length text → end ≡ length text → printedOf s (drop at text) ≡ lineText (toldNumber 1)
   unfolding commandsOf commandsOfPieces
   printed-cut l e =
       let n : length lineAt ≡ 0 → ⊥ = λ z. omega (arith, z, length-take (end - at) (drop at text), length-drop at text) in
@@ -72,7 +73,7 @@ module _ {input : List ℕ} {s₀ : State} {out₀ : List ℕ} {s : State} {out 
 
   module _ {end : ℕ} (h : PieceEnds lineFeed input at end) where
     -- a last line without its line feed
-    pub cut-reached : at < length input → end ≡ length input → {out′ : List ℕ} {w : ℕ} → Wrote out out′ written w (lineText (Line.Refused 1)) → w ≤ outputPerByte * length input
+    pub cut-reached : at < length input → end ≡ length input → {out′ : List ℕ} {w : ℕ} → Wrote out out′ written w (lineText (toldNumber 1)) → w ≤ outputPerByte * length input
         → WroteWithin (outputPerByte * length input) out₀ out′ 0 w (printedOf s₀ input)
     cut-reached l e v b = record {
       wrote = wrote-same (wrote-then (r .wrote) v) refl (ap (λ (t : List ℕ). r .done ++ t) (sym (printed-cut s input at end h l e)) ∙ r .rest);
@@ -97,7 +98,7 @@ module _ {input : List ℕ} {s₀ : State} {out₀ : List ℕ} {s : State} {out 
     }
 
 -- ---- the whole input
-pub long-input : (input : List ℕ) → mostInput < length input → transcript input ≡ lineText (Line.Refused 1)
+pub long-input : (input : List ℕ) → mostInput < length input → transcript input ≡ lineText (toldNumber 1)
 unfolding transcript inputCommands
 long-input input h = rw (lt-ltb mostInput (length input) h) (printed-unreadable initial)
 

@@ -16,23 +16,23 @@ use Rattle.calendar.specs.Calendar.{dateFrom}
 use Rattle.calendar.specs.Days.{dates, dayCount, dateOf}
 use Rattle.calendar.specs.Answers.{position, dayAnswer, dateAnswer}
 use Rattle.text.specs.declared.reading.Command.{Command}
-use Rattle.text.specs.declared.writing.Line.{Line}
+use Rattle.model.specs.declared.Told.{Told}
 use Rattle.text.specs.Commands.{commandOf}
 use Rattle.text.specs.Lines.{lineRoom}
 use Rattle.text.proofs.LineRoom.{refused-room}
 use Rattle.text.proofs.ShortestLines.{shortestLine, no-shorter-line}
 use Rattle.model.specs.declared.Answer.{Answer}
 use Rattle.model.specs.declared.Answer.the-variants.{Refused, Done, Billed, Rebilled, Certified, Cancelled, Claimed, Reported, Totalled}
-use Rattle.model.specs.Calls.{Call, request, callOpen, callBill, callRebill, callCert, callCancel, callClaim, callReport, callTotal, View, Test, _if_, firstOf, refusalNumber}
+use Rattle.model.specs.declared.Call.{Call as Made}
+use Rattle.model.specs.Calls.{toldOf, toldNumber, Call, asked, View, Test, _if_, firstOf, refusalNumber, valueCount}
 use Rattle.model.specs.Rules.{refusal}
 use Rattle.model.specs.Ledger.{Ledger, view, answer, outcome as ledgerOutcome, accept, unlessRefused}
-use Rattle.model.specs.Document01.{document01, tests}
-use Rattle.layout.specs.Layout.{wellFormed, ledgerOf}
-use Rattle.layout.specs.PackedLedger.{packedLayout}
+use Rattle.model.specs.Document01.{tests}
+use Rattle.layout.specs.Layout.{wellFormed}
 use Rattle.layout.specs.Offsets.{ledgerLength}
-use Rattle.layout.specs.Theorems.{packedMachine}
+use Rattle.layout.specs.Present.{rules, layout, facts, machine}
 use Rattle.contract_calls.specs.Start.{startRefusal, doneUnlessRefused, startAnswer}
-use Rattle.session.specs.AnswerLines.{lineOf, dayLine, dateLine}
+use Rattle.calls.specs.Told.{dayCount as dayNumbers, dateCount as dateNumbers, toldDay, toldDate}
 use Rattle.session.specs.Replies.{State, badPrice, priceLine, outcome, reply}
 use Rattle.session.specs.Transcript.{outputPerByte}
 
@@ -49,39 +49,39 @@ first-low (t ∷ ts) h = go (t .fits) (le-yes (t .number) 13 (and-left (leb (t .
     go true l k = l
     go false l k = k
 
-refusal-low : (v : View) (c : Call) → refusal document01 v c ≤ 13
+refusal-low : (v : View) (c : Call) → refusal rules v c ≤ 13
 unfolding refusal tests lowNumbers
-refusal-low v (callOpen c fuel kind fix entry) = first-low (tests v (callOpen c fuel kind fix entry)) refl
-refusal-low v (callBill q) = first-low (tests v (callBill q)) refl
-refusal-low v (callRebill q) = first-low (tests v (callRebill q)) refl
-refusal-low v (callCert c class effective) = first-low (tests v (callCert c class effective)) refl
-refusal-low v (callCancel c first) = first-low (tests v (callCancel c first)) refl
-refusal-low v callClaim = first-low (tests v callClaim) refl
-refusal-low v (callReport c) = first-low (tests v (callReport c)) refl
-refusal-low v callTotal = first-low (tests v callTotal) refl
+refusal-low v (asked (Made.Open c fuel kind fix entry) book) = first-low (tests v (asked (Made.Open c fuel kind fix entry) book)) refl
+refusal-low v (asked (Made.Bill q) book) = first-low (tests v (asked (Made.Bill q) book)) refl
+refusal-low v (asked (Made.Rebill q) book) = first-low (tests v (asked (Made.Rebill q) book)) refl
+refusal-low v (asked (Made.Cert c class effective) book) = first-low (tests v (asked (Made.Cert c class effective) book)) refl
+refusal-low v (asked (Made.Cancel c first) book) = first-low (tests v (asked (Made.Cancel c first) book)) refl
+refusal-low v (asked Made.Claim book) = first-low (tests v (asked Made.Claim book)) refl
+refusal-low v (asked (Made.Report c) book) = first-low (tests v (asked (Made.Report c) book)) refl
+refusal-low v (asked Made.Total book) = first-low (tests v (asked Made.Total book)) refl
 
 -- an accepted call answers no number of a refusal
-accepted-number : (l : Ledger) (c : Call) → refusalNumber (accept document01 l c .answers) ≡ 0
+accepted-number : (l : Ledger) (c : Call) → refusalNumber (accept rules l c .answers) ≡ 0
 unfolding accept
-accepted-number l (callOpen c fuel kind fix entry) = refl
-accepted-number l (callBill q) = refl
-accepted-number l (callRebill q) = refl
-accepted-number l (callCert c class effective) = refl
-accepted-number l (callCancel c first) = refl
-accepted-number l callClaim = refl
-accepted-number l (callReport c) = refl
-accepted-number l callTotal = refl
+accepted-number l (asked (Made.Open c fuel kind fix entry) book) = refl
+accepted-number l (asked (Made.Bill q) book) = refl
+accepted-number l (asked (Made.Rebill q) book) = refl
+accepted-number l (asked (Made.Cert c class effective) book) = refl
+accepted-number l (asked (Made.Cancel c first) book) = refl
+accepted-number l (asked Made.Claim book) = refl
+accepted-number l (asked (Made.Report c) book) = refl
+accepted-number l (asked Made.Total book) = refl
 
-outcome-low : (l : Ledger) (c : Call) (n : ℕ) → n ≤ 13 → refusalNumber (unlessRefused n l (accept document01 l c) .answers) ≤ 13
+outcome-low : (l : Ledger) (c : Call) (n : ℕ) → n ≤ 13 → refusalNumber (unlessRefused n l (accept rules l c) .answers) ≤ 13
 outcome-low l c zero h = omega (arith, accepted-number l c)
 outcome-low l c (suc n) h = h
 
-answer-low : (l : Ledger) (c : Call) → refusalNumber (answer document01 l c) ≤ 13
+answer-low : (l : Ledger) (c : Call) → refusalNumber (answer rules l c) ≤ 13
 unfolding answer ledgerOutcome
-answer-low l c = outcome-low l c (refusal document01 (view l) c) (refusal-low (view l) c)
+answer-low l c = outcome-low l c (refusal rules (view l) c) (refusal-low (view l) c)
 
-machine-low : (b : List ℕ) (c : Call) → refusalNumber (packedMachine .answer b c) ≤ 13
-machine-low b c = go (wellFormed document01 packedLayout b) (answer document01 (ledgerOf document01 packedLayout b) c) (answer-low (ledgerOf document01 packedLayout b) c)
+machine-low : (b : List ℕ) (c : Call) → refusalNumber (machine .answer b c) ≤ 13
+machine-low b c = go (wellFormed rules layout b) (answer rules (facts b) c) (answer-low (facts b) c)
   where
     go : (t : Bool) (a : Answer) → refusalNumber a ≤ 13 → refusalNumber (cond t a (Refused 2)) ≤ 13
     go true a h = h
@@ -96,11 +96,15 @@ start-low b territory = go (startRefusal b territory) (first-low ((2 if not (eqb
     go (suc n) h = h
 
 -- ---- no line takes more than 66 bytes
-refused-66 : (n : ℕ) → n ≤ 13 → lineRoom (Line.Refused n) ≤ 66
-refused-66 n h = omega (arith, refused-room 1 n (omega arith))
+refused-66 : (n : ℕ) → 1 ≤ n → n ≤ 13 → lineRoom (toldNumber n) ≤ 66
+refused-66 n p h = omega (arith, refused-room 1 n p (omega arith))
 
-answer-room : (a : Answer) → refusalNumber a ≤ 13 → lineRoom (lineOf a) ≤ 66
-answer-room (Refused n) h = refused-66 n h
+number-66 : (n : ℕ) → n ≤ 13 → lineRoom (toldNumber n) ≤ 66
+number-66 zero h = omega arith
+number-66 (suc n) h = refused-66 (suc n) (omega arith) h
+
+answer-room : (a : Answer) → refusalNumber a ≤ 13 → lineRoom (toldOf a) ≤ 66
+answer-room (Refused n) h = number-66 n h
 answer-room Done h = omega arith
 answer-room (Billed r rate amount) h = omega arith
 answer-room (Rebilled r rate change) h = omega arith
@@ -110,50 +114,87 @@ answer-room (Claimed pence rest) h = omega arith
 answer-room (Reported rows kwh due) h = omega arith
 answer-room (Totalled due unclaimed) h = omega arith
 
-ledger-room : (b : List ℕ) (c : Call) → lineRoom (lineOf (packedMachine .answer b c)) ≤ 66
-ledger-room b c = answer-room (packedMachine .answer b c) (machine-low b c)
+-- ---- no answer has more than three numbers
+answer-count : (a : Answer) → valueCount a ≤ 3
+answer-count (Refused n) = omega arith
+answer-count Done = omega arith
+answer-count (Billed r rate amount) = omega arith
+answer-count (Rebilled r rate change) = omega arith
+answer-count (Certified change rows) = omega arith
+answer-count (Cancelled change) = omega arith
+answer-count (Claimed pence rest) = omega arith
+answer-count (Reported rows kwh due) = omega arith
+answer-count (Totalled due unclaimed) = omega arith
 
-day-room : (year month day : ℕ) → lineRoom (dayLine (dayAnswer year month day)) ≤ 66
+day-count : (a : DayAnswer) → dayNumbers a ≤ 3
+day-count (DayAnswer.Day n) = omega arith
+day-count (DayAnswer.Refused n) = omega arith
+
+date-count : (a : DateAnswer) → dateNumbers a ≤ 3
+date-count (DateAnswer.Date d) = omega arith
+date-count (DateAnswer.Refused n) = omega arith
+
+price-count : (t : Bool) → cond t (toldNumber 8) (toldNumber 0) .count ≤ 3
+price-count true = omega arith
+price-count false = omega arith
+
+pub reply-count : (s : State) (c : Command) → reply s c .count ≤ 3
+unfolding outcome priceLine
+reply-count s (Command.Start territory) = answer-count (startAnswer (s .ledger) territory)
+reply-count s (Command.OnLedger c) = answer-count (machine .answer (s .ledger) (asked c (s .book)))
+reply-count s (Command.Day year month day) = day-count (dayAnswer year month day)
+reply-count s (Command.Date day) = date-count (dateAnswer day)
+reply-count s (Command.Price index value) = price-count (badPrice index value)
+reply-count s Command.Unreadable = omega arith
+
+ledger-room : (b : List ℕ) (c : Call) → lineRoom (toldOf (machine .answer b c)) ≤ 66
+ledger-room b c = answer-room (machine .answer b c) (machine-low b c)
+
+day-room : (year month day : ℕ) → lineRoom (toldDay (dayAnswer year month day)) ≤ 66
 unfolding dayAnswer
 day-room year month day =
     let number = position (dateFrom year month day) dates in go (ltb number dayCount) number
   where
-    go : (t : Bool) (n : ℕ) → lineRoom (dayLine (cond t (DayAnswer.Day n) (DayAnswer.Refused 7))) ≤ 66
+    go : (t : Bool) (n : ℕ) → lineRoom (toldDay (cond t (DayAnswer.Day n) (DayAnswer.Refused 7))) ≤ 66
     go true n = omega arith
-    go false n = refused-66 7 (omega arith)
+    go false n = refused-66 7 (omega arith) (omega arith)
 
-date-room : (day : ℕ) → lineRoom (dateLine (dateAnswer day)) ≤ 66
+date-room : (day : ℕ) → lineRoom (toldDate (dateAnswer day)) ≤ 66
 unfolding dateAnswer
 date-room day = go (ltb day dayCount) (dateOf day)
   where
-    go : (t : Bool) (d : CalendarDate) → lineRoom (dateLine (cond t (DateAnswer.Date d) (DateAnswer.Refused 7))) ≤ 66
+    go : (t : Bool) (d : CalendarDate) → lineRoom (toldDate (cond t (DateAnswer.Date d) (DateAnswer.Refused 7))) ≤ 66
     go true d = omega arith
-    go false d = refused-66 7 (omega arith)
+    go false d = refused-66 7 (omega arith) (omega arith)
 
 price-room : (index value : ℕ) → lineRoom (priceLine index value) ≤ 66
 unfolding priceLine
 price-room index value = go (badPrice index value)
   where
-    go : (t : Bool) → lineRoom (cond t (Line.Refused 8) Line.Ok) ≤ 66
-    go true = refused-66 8 (omega arith)
+    go : (t : Bool) → lineRoom (cond t (toldNumber 8) (toldNumber 0)) ≤ 66
+    go true = refused-66 8 (omega arith) (omega arith)
     go false = omega arith
+
+-- a line of a call has 5 bytes and its line feed
+shortest-call : (c : Made) → 5 ≤ shortestLine (Command.OnLedger c)
+shortest-call (Made.Open c fuel kind fix entry) = omega arith
+shortest-call (Made.Bill q) = omega arith
+shortest-call (Made.Rebill q) = omega arith
+shortest-call (Made.Cert c class effective) = omega arith
+shortest-call (Made.Cancel c first) = omega arith
+shortest-call Made.Claim = omega arith
+shortest-call (Made.Report c) = omega arith
+shortest-call Made.Total = omega arith
 
 -- ---- the reply to each command
 reply-room : (s : State) (c : Command) → lineRoom (reply s c) ≤ outputPerByte * (shortestLine c + 1)
 unfolding outcome
 reply-room s (Command.Start territory) = omega (arith, answer-room (startAnswer (s .ledger) territory) (start-low (s .ledger) territory))
-reply-room s (Command.Open c fuel kind fix entry) = omega (arith, ledger-room (s .ledger) (callOpen c fuel kind fix entry))
-reply-room s (Command.Bill c first last kwh supply wap) = omega (arith, ledger-room (s .ledger) (callBill (request c first last kwh supply wap (s .book))))
-reply-room s (Command.Rebill c first last kwh supply wap) = omega (arith, ledger-room (s .ledger) (callRebill (request c first last kwh supply wap (s .book))))
-reply-room s (Command.Cert c class effective) = omega (arith, ledger-room (s .ledger) (callCert c class effective))
-reply-room s (Command.Cancel c first) = omega (arith, ledger-room (s .ledger) (callCancel c first))
-reply-room s Command.Claim = omega (arith, ledger-room (s .ledger) callClaim)
-reply-room s (Command.Report c) = omega (arith, ledger-room (s .ledger) (callReport c))
-reply-room s Command.Total = omega (arith, ledger-room (s .ledger) callTotal)
+reply-room s (Command.OnLedger c) = omega (arith, ledger-room (s .ledger) (asked c (s .book)), shortest-call c)
 reply-room s (Command.Day year month day) = omega (arith, day-room year month day)
 reply-room s (Command.Date day) = omega (arith, date-room day)
 reply-room s (Command.Price index value) = omega (arith, price-room index value)
-reply-room s Command.Unreadable = omega (arith, refused-room 0 1 (omega arith))
+reply-room s Command.Unreadable = omega (arith, refused-room 0 1 (omega arith) (omega arith))
 
-pub line-room : {said : Line} (s : State) (line : List ℕ) → said ≡ reply s (commandOf line) → lineRoom said ≤ outputPerByte * (length line + 1)
+pub line-room : {said : Told} (s : State) (line : List ℕ) → said ≡ reply s (commandOf line) → lineRoom said ≤ outputPerByte * (length line + 1)
 line-room s line e = rw e (omega (arith, reply-room s (commandOf line), no-shorter-line line))

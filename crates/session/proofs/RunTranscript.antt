@@ -4,22 +4,22 @@ use mathlib.Core.List.{List, [], _∷_, _++_, map}
 use Prim.Native.Nat.{ℕ}
 use native.Mathlib.Omega.{arith}
 use Rattle.text.specs.declared.reading.Command.{Command}
-use Rattle.text.specs.declared.writing.Line.{Line}
+use Rattle.model.specs.declared.Told.{Told}
 use Rattle.text.specs.Pieces.{pieces, sameText}
 use Rattle.text.specs.Numbers.{digitsBy, digits, decimalValue, numberOf, numbersOf}
 use Rattle.text.specs.Commands.{formNamed, commandOf}
 use Rattle.text.specs.Lines.{lineText}
-use Rattle.model.specs.Document01.{document01}
+use Rattle.model.specs.declared.Call.{Call}
+use Rattle.model.specs.Calls.{toldOf, requestOf}
 use Rattle.model.specs.History.{answersTo, ledgerMachine}
-use Rattle.model.specs.Run.{zeroBookRequest, runCalls, runAnswers}
+use Rattle.model.specs.Run.{zeroBook, runCalls, runAnswers}
 use Rattle.model.proofs.Document01.{document01-laws}
 use Rattle.model.proofs.Refinement.{same-answers}
 use Rattle.model.proofs.BytesBalance.{bytes-refine}
 use Rattle.model.proofs.Run.{the-run}
 use Rattle.layout.specs.PackedLedger.{packedLedger}
-use Rattle.layout.specs.Theorems.{packedMachine}
 use Rattle.layout.proofs.PackedLedger.{packed-format}
-use Rattle.session.specs.AnswerLines.{lineOf}
+use Rattle.layout.specs.Present.{rules, machine}
 use Rattle.session.specs.Replies.{initial}
 use Rattle.session.specs.Transcript.{commandsOfPieces, commandsOf, inputCommands, exchanges, printed, transcript}
 use Rattle.session.specs.RunTranscript.{runInput, runOutput, TheRunIsPrinted}
@@ -28,16 +28,16 @@ use Rattle.session.proofs.SessionBalance.{log-answers}
 
 runCommands : List Command
 runCommands =
-    Command.Open 0 0 2 0 0 ∷
-    Command.Bill 0 486 515 1000 67030 31980 ∷
-    Command.Claim ∷
-    Command.Cert 0 1 486 ∷
-    Command.Claim ∷
-    Command.Rebill 0 486 515 901 67030 31980 ∷
-    Command.Claim ∷
-    Command.Cancel 0 486 ∷
-    Command.Total ∷
-    Command.Bill 64 486 515 1 1 1 ∷
+    Command.OnLedger (Call.Open 0 0 2 0 0) ∷
+    Command.OnLedger (Call.Bill (requestOf 0 486 515 1000 67030 31980)) ∷
+    Command.OnLedger Call.Claim ∷
+    Command.OnLedger (Call.Cert 0 1 486) ∷
+    Command.OnLedger Call.Claim ∷
+    Command.OnLedger (Call.Rebill (requestOf 0 486 515 901 67030 31980)) ∷
+    Command.OnLedger Call.Claim ∷
+    Command.OnLedger (Call.Cancel 0 486) ∷
+    Command.OnLedger Call.Total ∷
+    Command.OnLedger (Call.Bill (requestOf 64 486 515 1 1 1)) ∷
     []
 
 run-read : inputCommands runInput ≡ runCommands
@@ -45,7 +45,7 @@ unfolding runInput runCommands inputCommands commandsOf commandsOfPieces command
 run-read = refl
 
 -- the text of lines
-linesText : List Line → List ℕ
+linesText : List Told → List ℕ
 linesText [] = []
 linesText (line ∷ lines) = lineText line ++ linesText lines
 
@@ -54,16 +54,16 @@ run-lines : printed (exchanges initial runCommands) ≡ linesText (logOf runComm
 unfolding runCommands linesText printed logOf logCommand emptyLog
 run-lines = refl
 
-run-answers : logOf runCommands .lines ≡ map lineOf (answersTo packedMachine 0 runCalls)
-unfolding runCommands runCalls zeroBookRequest logOf logCommand emptyLog
+run-answers : logOf runCommands .lines ≡ map toldOf (answersTo machine 0 runCalls)
+unfolding runCommands runCalls zeroBook logOf logCommand emptyLog
 run-answers = log-answers runCommands
 
-model-answers : answersTo packedMachine 0 runCalls ≡ runAnswers
+model-answers : answersTo machine 0 runCalls ≡ runAnswers
 model-answers =
-    same-answers packedMachine (ledgerMachine document01) (bytes-refine document01 document01-laws packedLedger packed-format) 0 (omega arith) runCalls
+    same-answers machine (ledgerMachine rules) (bytes-refine rules document01-laws packedLedger packed-format) 0 (omega arith) runCalls
     ∙ the-run
 
-run-text : linesText (map lineOf runAnswers) ≡ runOutput
+run-text : linesText (map toldOf runAnswers) ≡ runOutput
 unfolding runAnswers runOutput linesText digits digitsBy
 run-text = refl
 
@@ -72,5 +72,5 @@ unfolding transcript
 the-run-is-printed =
     ap (λ (cs : List Command). printed (exchanges initial cs)) run-read
     ∙ run-lines
-    ∙ ap linesText (run-answers ∙ ap (map lineOf) model-answers)
+    ∙ ap linesText (run-answers ∙ ap (map toldOf) model-answers)
     ∙ run-text

@@ -8,21 +8,17 @@ use borrow.Author.Tests.{ltb-false}
 use lib.Dec.{ltb, eqb}
 use lib.ListN.{length, set}
 use Rattle.text.specs.declared.reading.Command.{Command}
-use Rattle.text.specs.declared.writing.Line.{Line}
-use Rattle.model.specs.Calls.{Call, request, callOpen, callBill, callRebill, callCert, callCancel, callClaim, callReport, callTotal, _if_}
-use Rattle.model.specs.Document01.{document01}
+use Rattle.model.specs.declared.Told.{Told}
+use Rattle.model.specs.Calls.{toldOf, toldNumber, Call, asked, callTotal, _if_}
 use Rattle.model.specs.Ledger.{fresh}
 use Rattle.model.specs.Format.{unlessRefused}
 use Rattle.model.specs.History.{run, replies, sheetAfter, stateAfter, answersTo}
 use Rattle.model.specs.Document01Balance.{BalancedByRates}
 use Rattle.model.proofs.Refusals.{clear}
-use Rattle.layout.specs.Layout.{bytesOf}
-use Rattle.layout.specs.PackedLedger.{packedLayout}
 use Rattle.layout.specs.Offsets.{ledgerLength}
-use Rattle.layout.specs.Theorems.{packedMachine}
 use Rattle.layout.proofs.PackedLedger.{demand-three}
+use Rattle.layout.specs.Present.{rules, bytes, machine}
 use Rattle.contract_calls.specs.Start.{startRefusal, doneUnlessRefused, startAnswer, startBytes}
-use Rattle.session.specs.AnswerLines.{lineOf}
 use Rattle.session.specs.Replies.{State, holding, initial, onLedger, badPrice, priceLine, bookWith, outcome, reply, next}
 use Rattle.session.specs.Transcript.{Exchange, exchanges, inputCommands}
 use Rattle.session.specs.SessionBalance.{Log, emptyLog, isOk, withCall, logCommand, logOf, stateAfterCommands, EverySessionBalances}
@@ -42,8 +38,8 @@ module _ {S C : Type 0} (move : S → C → S) where
 record Agrees (s : State) (l : Log) : Type 0 where
   book : s .book ≡ l .book
   territory : l .territory ≤ 1
-  bytes : s .ledger ≡ stateAfter packedMachine (l .territory) (l .history)
-  answers : l .lines ≡ map lineOf (answersTo packedMachine (l .territory) (l .history))
+  bytes : s .ledger ≡ stateAfter machine (l .territory) (l .history)
+  answers : l .lines ≡ map toldOf (answersTo machine (l .territory) (l .history))
 
 module _ (s : State) (l : Log) (a : Agrees s l) where
   -- after a call of the history
@@ -51,15 +47,15 @@ module _ (s : State) (l : Log) (a : Agrees s l) where
   unfolding stateAfter answersTo
   agrees-call c =
       let t = l .territory in
-      let answered = replies (packedMachine .step) (packedMachine .answer) (packedMachine .start t) (l .history) in
-      let more = replies-more (packedMachine .step) (packedMachine .answer) (l .history) (packedMachine .start t) c in
+      let answered = replies (machine .step) (machine .answer) (machine .start t) (l .history) in
+      let more = replies-more (machine .step) (machine .answer) (l .history) (machine .start t) c in
       record {
         book = a .book;
         territory = a .territory;
-        bytes = ap (λ (b : List ℕ). packedMachine .step b c) (a .bytes) ∙ sym (run-more (packedMachine .step) (l .history) (packedMachine .start t) c);
+        bytes = ap (λ (b : List ℕ). machine .step b c) (a .bytes) ∙ sym (run-more (machine .step) (l .history) (machine .start t) c);
         answers =
-            ap₂ (λ (ls : List Line) (b : List ℕ). ls ++ (lineOf (packedMachine .answer b c) ∷ [])) (a .answers) (a .bytes)
-            ∙ sym (ap (map lineOf) more ∙ map-append lineOf answered (packedMachine .answer (run (packedMachine .step) (packedMachine .start t) (l .history)) c ∷ []));
+            ap₂ (λ (ls : List Told) (b : List ℕ). ls ++ (toldOf (machine .answer b c) ∷ [])) (a .answers) (a .bytes)
+            ∙ sym (ap (map toldOf) more ∙ map-append toldOf answered (machine .answer (run (machine .step) (machine .start t) (l .history)) c ∷ []));
       }
 
   -- a bill or rebill comes with the program's book, which is the log's
@@ -73,14 +69,14 @@ module _ (s : State) (l : Log) (a : Agrees s l) where
   start-territory t e = ltb-false 1 t (clear ((2 if not (eqb (length (s .ledger)) ledgerLength)) ∷ (6 if ltb 1 t) ∷ []) tt e 6)
 
   agrees-start-by : (t n : ℕ) → startRefusal (s .ledger) t ≡ n
-      → Agrees (holding (unlessRefused n (bytesOf document01 packedLayout (fresh t)) (s .ledger)) (s .book)) (cond (isOk (lineOf (doneUnlessRefused n))) (record { book = l .book; territory = t; history = []; lines = [] }) l)
+      → Agrees (holding (unlessRefused n (bytes (fresh t)) (s .ledger)) (s .book)) (cond (isOk (toldOf (doneUnlessRefused n))) (record { book = l .book; territory = t; history = []; lines = [] }) l)
   unfolding stateAfter answersTo
   agrees-start-by t zero e = record { book = a .book; territory = start-territory t e; bytes = refl; answers = refl }
   agrees-start-by t (suc n) e = record { book = a .book; territory = a .territory; bytes = a .bytes; answers = a .answers }
 
   -- after a price, by whether it is turned down
   agrees-price-by : (index value : ℕ) (t : Bool) → Agrees (holding (s .ledger) (cond t (s .book) (set (s .book) index value)))
-      (cond (isOk (cond t (Line.Refused 8) Line.Ok)) (record { book = set (l .book) index value; territory = l .territory; history = l .history; lines = l .lines }) l)
+      (cond (isOk (cond t (toldNumber 8) (toldNumber 0))) (record { book = set (l .book) index value; territory = l .territory; history = l .history; lines = l .lines }) l)
   agrees-price-by index value true = record { book = a .book; territory = a .territory; bytes = a .bytes; answers = a .answers }
   agrees-price-by index value false =
       record { book = ap (λ (b : List ℕ). set b index value) (a .book); territory = a .territory; bytes = a .bytes; answers = a .answers }
@@ -89,14 +85,7 @@ module _ (s : State) (l : Log) (a : Agrees s l) where
   agrees-next : (c : Command) → Agrees (next s c) (logCommand l c (reply s c))
   unfolding outcome logCommand startAnswer startBytes priceLine bookWith
   agrees-next (Command.Start territory) = agrees-start-by territory (startRefusal (s .ledger) territory) refl
-  agrees-next (Command.Open c fuel kind fix entry) = agrees-call (callOpen c fuel kind fix entry)
-  agrees-next (Command.Bill c first last kwh supply wap) = agrees-request (λ b. callBill (request c first last kwh supply wap b))
-  agrees-next (Command.Rebill c first last kwh supply wap) = agrees-request (λ b. callRebill (request c first last kwh supply wap b))
-  agrees-next (Command.Cert c class effective) = agrees-call (callCert c class effective)
-  agrees-next (Command.Cancel c first) = agrees-call (callCancel c first)
-  agrees-next Command.Claim = agrees-call callClaim
-  agrees-next (Command.Report c) = agrees-call (callReport c)
-  agrees-next Command.Total = agrees-call callTotal
+  agrees-next (Command.OnLedger c) = agrees-request (asked c)
   agrees-next (Command.Day year month day) = a
   agrees-next (Command.Date day) = a
   agrees-next (Command.Price index value) = agrees-price-by index value (badPrice index value)
@@ -115,7 +104,7 @@ unfolding stateAfterCommands logOf
 agrees cs = agrees-after cs initial emptyLog agrees-first
 
 -- the lines printed for the history's calls are those of its answers
-pub log-answers : (cs : List Command) → logOf cs .lines ≡ map lineOf (answersTo packedMachine (logOf cs .territory) (logOf cs .history))
+pub log-answers : (cs : List Command) → logOf cs .lines ≡ map toldOf (answersTo machine (logOf cs .territory) (logOf cs .history))
 log-answers cs = agrees cs .answers
 
 pub every-session-balances : EverySessionBalances
@@ -128,7 +117,7 @@ every-session-balances input =
       answers = a .answers;
       balanced =
           subst
-          (λ (b : List ℕ). BalancedByRates (sheetAfter document01 (l .territory) (l .history)) (answersTo packedMachine (l .territory) (l .history)) (packedMachine .answer b callTotal) (packedMachine .facts b .rows))
+          (λ (b : List ℕ). BalancedByRates (sheetAfter rules (l .territory) (l .history)) (answersTo machine (l .territory) (l .history)) (machine .answer b callTotal) (machine .facts b .rows))
           (sym (a .bytes))
           (demand-three .balances (l .territory) (a .territory) (l .history));
     }

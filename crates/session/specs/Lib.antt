@@ -1,7 +1,5 @@
 -- A session: the line for each answer, the reply to each command, the transcript of an input, and what it says of a history.
-pub mod AnswerLines
 pub mod Replies
-pub mod CommandGroups
 pub mod Transcript
 pub mod RunTranscript
 pub mod SessionBalance

@@ -6,11 +6,11 @@ use lib.Dec.{ltb}
 use lib.ListN.{replicate, set}
 use Rattle.calendar.specs.Answers.{dayAnswer, dateAnswer}
 use Rattle.text.specs.declared.reading.Command.{Command}
-use Rattle.text.specs.declared.writing.Line.{Line}
-use Rattle.model.specs.Calls.{Call, request, callOpen, callBill, callRebill, callCert, callCancel, callClaim, callReport, callTotal}
-use Rattle.layout.specs.Theorems.{packedMachine}
+use Rattle.model.specs.declared.Told.{Told}
+use Rattle.model.specs.Calls.{toldOf, toldNumber, Call, asked}
+use Rattle.layout.specs.Present.{machine}
 use Rattle.contract_calls.specs.Start.{startAnswer, startBytes}
-use Rattle.session.specs.AnswerLines.{lineOf, dayLine, dateLine}
+use Rattle.calls.specs.Told.{toldDay, toldDate}
 
 -- what the program holds: the ledger's bytes and the price book
 pub record State : Type 0 where
@@ -26,28 +26,28 @@ bookLength = 1740
 
 -- at first: a fresh Great Britain ledger and a book of zeros
 unfoldable pub initial : State
-initial = holding (packedMachine .start 0) (replicate bookLength 0)
+initial = holding (machine .start 0) (replicate bookLength 0)
 
 -- the line that is printed for a command, and what is held after it
 pub record Outcome : Type 0 where
-  pub line : Line
+  pub line : Told
   pub next : State
 
 -- a line, and nothing is changed
-abbrev pub saying : State → Line → Outcome
+abbrev pub saying : State → Told → Outcome
 saying s line = record { line = line; next = s }
 
 -- a call of a history on the ledger: document 01's machine on the bytes
 abbrev pub onLedger : State → Call → Outcome
 onLedger s c = record {
-  line = lineOf (packedMachine .answer (s .ledger) c);
-  next = holding (packedMachine .step (s .ledger) c) (s .book);
+  line = toldOf (machine .answer (s .ledger) c);
+  next = holding (machine .step (s .ledger) c) (s .book);
 }
 
 -- start keeps the book
 abbrev pub starting : State → (territory : ℕ) → Outcome
 starting s territory = record {
-  line = lineOf (startAnswer (s .ledger) territory);
+  line = toldOf (startAnswer (s .ledger) territory);
   next = holding (startBytes (s .ledger) territory) (s .book);
 }
 
@@ -56,8 +56,8 @@ abbrev pub badPrice : (index value : ℕ) → Bool
 badPrice index value = ltb 1739 index || ltb 999999 value
 
 -- price sets a book entry and answers no numbers
-unfoldable pub priceLine : (index value : ℕ) → Line
-priceLine index value = cond (badPrice index value) (Line.Refused 8) Line.Ok
+unfoldable pub priceLine : (index value : ℕ) → Told
+priceLine index value = cond (badPrice index value) (toldNumber 8) (toldNumber 0)
 
 unfoldable pub bookWith : (index value : ℕ) → List ℕ → List ℕ
 bookWith index value book = cond (badPrice index value) book (set book index value)
@@ -68,21 +68,14 @@ pricing s index value = record { line = priceLine index value; next = holding (s
 -- what each command prints and leaves
 unfoldable pub outcome : State → Command → Outcome
 outcome s (Command.Start territory) = starting s territory
-outcome s (Command.Open contract fuel kind fix entry) = onLedger s (callOpen contract fuel kind fix entry)
-outcome s (Command.Bill contract first last kwh supply wap) = onLedger s (callBill (request contract first last kwh supply wap (s .book)))
-outcome s (Command.Rebill contract first last kwh supply wap) = onLedger s (callRebill (request contract first last kwh supply wap (s .book)))
-outcome s (Command.Cert contract class effective) = onLedger s (callCert contract class effective)
-outcome s (Command.Cancel contract first) = onLedger s (callCancel contract first)
-outcome s Command.Claim = onLedger s callClaim
-outcome s (Command.Report contract) = onLedger s (callReport contract)
-outcome s Command.Total = onLedger s callTotal
-outcome s (Command.Day year month day) = saying s (dayLine (dayAnswer year month day))
-outcome s (Command.Date day) = saying s (dateLine (dateAnswer day))
+outcome s (Command.OnLedger c) = onLedger s (asked c (s .book))
+outcome s (Command.Day year month day) = saying s (toldDay (dayAnswer year month day))
+outcome s (Command.Date day) = saying s (toldDate (dateAnswer day))
 outcome s (Command.Price index value) = pricing s index value
-outcome s Command.Unreadable = saying s (Line.Refused 1)
+outcome s Command.Unreadable = saying s (toldNumber 1)
 
 -- the line that is printed, and what is held next
-abbrev pub reply : State → Command → Line
+abbrev pub reply : State → Command → Told
 reply s c = outcome s c .line
 
 abbrev pub next : State → Command → State

@@ -3,16 +3,14 @@
 use mathlib.Core.Path.{_≡_}
 use mathlib.Core.Bool.{Bool, true, false, cond}
 use mathlib.Core.List.{List, [], _∷_, _++_, map}
-use Prim.Native.Nat.{ℕ, _≤_}
+use Prim.Native.Nat.{ℕ, zero, suc, _≤_}
 use lib.ListN.{replicate, set}
 use Rattle.text.specs.declared.reading.Command.{Command}
-use Rattle.text.specs.declared.writing.Line.{Line}
-use Rattle.model.specs.Calls.{Call, request, callOpen, callBill, callRebill, callCert, callCancel, callClaim, callReport, callTotal}
-use Rattle.model.specs.Document01.{document01}
+use Rattle.model.specs.declared.Told.{Told}
+use Rattle.model.specs.Calls.{toldOf, toldNumber, Call, asked, callTotal}
 use Rattle.model.specs.History.{run, sheetAfter, stateAfter, answersTo}
 use Rattle.model.specs.Document01Balance.{BalancedByRates}
-use Rattle.layout.specs.Theorems.{packedMachine}
-use Rattle.session.specs.AnswerLines.{lineOf}
+use Rattle.layout.specs.Present.{rules, machine}
 use Rattle.session.specs.Replies.{State, bookLength, initial, next}
 use Rattle.session.specs.Transcript.{exchanges, inputCommands}
 
@@ -22,34 +20,27 @@ pub record Log : Type 0 where
   pub book : List ℕ
   pub territory : ℕ
   pub history : List Call
-  pub lines : List Line
+  pub lines : List Told
 
 -- at first: a book of zeros, and a fresh Great Britain ledger
 unfoldable pub emptyLog : Log
 emptyLog = record { book = replicate bookLength 0; territory = 0; history = []; lines = [] }
 
-abbrev pub isOk : Line → Bool
-isOk (Line.Refused n) = false
-isOk Line.Ok = true
-isOk (Line.Ok1 a) = true
-isOk (Line.Ok2 a b) = true
-isOk (Line.Ok3 a b c) = true
+abbrev pub isZero : ℕ → Bool
+isZero zero = true
+isZero (suc n) = false
+
+abbrev pub isOk : Told → Bool
+isOk t = isZero (t .refused)
 
 -- a call of the history, and the line printed for it
-abbrev pub withCall : Log → Call → Line → Log
+abbrev pub withCall : Log → Call → Told → Log
 withCall l c line = record { book = l .book; territory = l .territory; history = l .history ++ (c ∷ []); lines = l .lines ++ (line ∷ []) }
 
 -- an accepted start begins a history; an accepted price changes the book; day, date and what can't be read are no part of a history
-unfoldable pub logCommand : Log → Command → Line → Log
+unfoldable pub logCommand : Log → Command → Told → Log
 logCommand l (Command.Start territory) line = cond (isOk line) (record { book = l .book; territory = territory; history = []; lines = [] }) l
-logCommand l (Command.Open contract fuel kind fix entry) line = withCall l (callOpen contract fuel kind fix entry) line
-logCommand l (Command.Bill contract first last kwh supply wap) line = withCall l (callBill (request contract first last kwh supply wap (l .book))) line
-logCommand l (Command.Rebill contract first last kwh supply wap) line = withCall l (callRebill (request contract first last kwh supply wap (l .book))) line
-logCommand l (Command.Cert contract class effective) line = withCall l (callCert contract class effective) line
-logCommand l (Command.Cancel contract first) line = withCall l (callCancel contract first) line
-logCommand l Command.Claim line = withCall l callClaim line
-logCommand l (Command.Report contract) line = withCall l (callReport contract) line
-logCommand l Command.Total line = withCall l callTotal line
+logCommand l (Command.OnLedger c) line = withCall l (asked c (l .book)) line
 logCommand l (Command.Day year month day) line = l
 logCommand l (Command.Date day) line = l
 logCommand l (Command.Price index value) line =
@@ -67,11 +58,11 @@ stateAfterCommands commands = run next initial commands
 pub record HistoryBalances (log : Log) (ledger : List ℕ) : Type 0 where
   pub territory : log .territory ≤ 1
   -- the ledger is the one that the history leaves
-  pub bytes : ledger ≡ stateAfter packedMachine (log .territory) (log .history)
+  pub bytes : ledger ≡ stateAfter machine (log .territory) (log .history)
   -- the lines printed are those of the history's answers
-  pub answers : log .lines ≡ map lineOf (answersTo packedMachine (log .territory) (log .history))
+  pub answers : log .lines ≡ map toldOf (answersTo machine (log .territory) (log .history))
   -- demand 3, of that history: with the answers printed, and the answer to a total called next
-  pub balanced : BalancedByRates (sheetAfter document01 (log .territory) (log .history)) (answersTo packedMachine (log .territory) (log .history)) (packedMachine .answer ledger callTotal) (packedMachine .facts ledger .rows)
+  pub balanced : BalancedByRates (sheetAfter rules (log .territory) (log .history)) (answersTo machine (log .territory) (log .history)) (machine .answer ledger callTotal) (machine .facts ledger .rows)
 
 -- for every input
 abbrev pub EverySessionBalances : Type 0

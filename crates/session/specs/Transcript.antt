@@ -5,7 +5,7 @@ use Prim.Native.Nat.{ℕ, _*_}
 use lib.Dec.{eqb, ltb}
 use lib.ListN.{length}
 use Rattle.text.specs.declared.reading.Command.{Command}
-use Rattle.text.specs.declared.writing.Line.{Line}
+use Rattle.model.specs.declared.Told.{Told}
 use Rattle.text.specs.Bytes.{lineFeed}
 use Rattle.text.specs.Pieces.{pieces}
 use Rattle.text.specs.Commands.{commandOf}
@@ -34,7 +34,7 @@ inputCommands input = cond (ltb mostInput (length input)) (Command.Unreadable �
 -- a command, and the line that is printed for it
 pub record Exchange : Type 0 where
   pub command : Command
-  pub line : Line
+  pub line : Told
 
 abbrev pub exchange : State → Command → Exchange
 exchange s c = record { command = c; line = reply s c }

@@ -1,17 +1,17 @@
 // A session of the program: the whole input to the whole output.
-mod answers;
 mod replies;
 
+use calls::told::told_number;
 use layout::LEDGER_LENGTH;
 use replies::UNREADABLE;
 use replies::reply;
 use text::pieces::find;
 use text::reading::read_command;
-use text::writing::Line;
 use text::writing::write_line;
 ghost use mathlib.Core.Path.{_≡_};
 ghost use Prim.Native.Nat.{_+_, _*_, _≤_};
 ghost use lib.ListN.{length};
+ghost use Rattle.model.specs.Calls.{toldNumber};
 ghost use Rattle.text.specs.Commands.{commandOf};
 ghost use Rattle.text.specs.Lines.{lineText, WroteWithin};
 ghost use Rattle.session.specs.Replies.{holding, bookLength, reply, next};
@@ -45,6 +45,14 @@ fn reply_to_line(
     write_line(out, at, said)
 }
 
+// Writes the line of what can't be read from `at` on.
+fn write_unreadable(out: &mut [u8], at: usize) -> usize
+    requires { ⌜ at + 10 ≤ length (now out) ⌝ }
+    ensures { λ r. ⌜ WroteWithin 10 (now (out .entry)) (now (out .exit)) at r (lineText (toldNumber 1)) ⌝ }
+{
+    write_line(out, at, told_number(UNREADABLE))
+}
+
 // All lines of a text.
 fn reply_to_lines(input: &[u8], ledger: &mut [u8], book: &mut [u32], out: &mut [u8]) -> usize
     requires { ⌜ (length (now book) ≡ bookLength) × (outputPerByte * length (now input) ≤ length (now out)) ⌝ }
@@ -55,7 +63,7 @@ fn reply_to_lines(input: &[u8], ledger: &mut [u8], book: &mut [u32], out: &mut [
     while at < input.len() {
         let end = find(input, at, b'\n');
         if end == input.len() {
-            return write_line(out, written, Line::Refused(UNREADABLE));
+            return write_unreadable(out, written);
         }
         written = reply_to_line(&input[at..end], ledger, book, out, written);
         at = end + 1;
@@ -69,7 +77,7 @@ pub fn session(input: &[u8], out: &mut [u8]) -> usize
     ensures { λ r. ⌜ WroteWithin mostOutput (now (out .entry)) (now (out .exit)) 0 r (transcript (now (input .entry))) ⌝ }
 {
     if MOST_INPUT < input.len() {
-        return write_line(out, 0, Line::Refused(UNREADABLE));
+        return write_unreadable(out, 0);
     }
     let mut ledger = [0u8; LEDGER_LENGTH];
     let mut book = [0u32; BOOK_LENGTH];

@@ -11,4 +11,5 @@ pub mod Integers
 pub mod Writes
 pub mod ShortestLines
 pub mod LineRoom
+pub mod NumberTexts
 pub mod Run

@@ -9,6 +9,7 @@ use borrow.Author.Tests.{eqb-true, eqb-false}
 use lib.Dec.{eqb}
 use lib.ListN.{length}
 use lib.Seq.{take-all}
+use Rattle.model.specs.declared.Call.{Call}
 use Rattle.text.specs.declared.reading.Command.{Command}
 use Rattle.text.specs.declared.reading.Parsed.{Parsed}
 use Rattle.text.specs.Bytes.{space}
@@ -22,14 +23,14 @@ use Rattle.text.proofs.Commands.{wrong-count, from-part}
 -- the length of the shortest line of a command: its name, and two bytes for each number
 abbrev pub shortestLine : Command → ℕ
 shortestLine (Command.Start a) = 7
-shortestLine (Command.Open a b c d e) = 14
-shortestLine (Command.Bill a b c d e f) = 16
-shortestLine (Command.Rebill a b c d e f) = 18
-shortestLine (Command.Cert a b c) = 10
-shortestLine (Command.Cancel a b) = 10
-shortestLine Command.Claim = 5
-shortestLine (Command.Report a) = 8
-shortestLine Command.Total = 5
+shortestLine (Command.OnLedger (Call.Open a b c d e)) = 14
+shortestLine (Command.OnLedger (Call.Bill q)) = 16
+shortestLine (Command.OnLedger (Call.Rebill q)) = 18
+shortestLine (Command.OnLedger (Call.Cert a b c)) = 10
+shortestLine (Command.OnLedger (Call.Cancel a b)) = 10
+shortestLine (Command.OnLedger Call.Claim) = 5
+shortestLine (Command.OnLedger (Call.Report a)) = 8
+shortestLine (Command.OnLedger Call.Total) = 5
 shortestLine (Command.Day a b c) = 9
 shortestLine (Command.Date a) = 6
 shortestLine (Command.Price a b) = 9

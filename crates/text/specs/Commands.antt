@@ -4,6 +4,8 @@ use mathlib.Core.List.{List, [], _∷_}
 use mathlib.Core.Option.{Option, none, some}
 use Prim.Native.Nat.{ℕ, zero, suc}
 use Prim.Native.String.{String}
+use Rattle.model.specs.declared.Call.{Call}
+use Rattle.model.specs.Calls.{requestOf}
 use Rattle.text.specs.declared.reading.Command.{Command}
 use Rattle.text.specs.Bytes.{bytes, space}
 use Rattle.text.specs.Pieces.{pieces, sameText}
@@ -27,14 +29,14 @@ form name k make = record { name = bytes name; count = k; make = make }
 abbrev pub forms : List Form
 forms =
     form "start" 1 Command.Start ∷
-    form "open" 5 Command.Open ∷
-    form "bill" 6 Command.Bill ∷
-    form "rebill" 6 Command.Rebill ∷
-    form "cert" 3 Command.Cert ∷
-    form "cancel" 2 Command.Cancel ∷
-    form "claim" 0 Command.Claim ∷
-    form "report" 1 Command.Report ∷
-    form "total" 0 Command.Total ∷
+    form "open" 5 (λ c fuel kind fix entry. Command.OnLedger (Call.Open c fuel kind fix entry)) ∷
+    form "bill" 6 (λ c first last kwh supply wap. Command.OnLedger (Call.Bill (requestOf c first last kwh supply wap))) ∷
+    form "rebill" 6 (λ c first last kwh supply wap. Command.OnLedger (Call.Rebill (requestOf c first last kwh supply wap))) ∷
+    form "cert" 3 (λ c class effective. Command.OnLedger (Call.Cert c class effective)) ∷
+    form "cancel" 2 (λ c first. Command.OnLedger (Call.Cancel c first)) ∷
+    form "claim" 0 (Command.OnLedger Call.Claim) ∷
+    form "report" 1 (λ c. Command.OnLedger (Call.Report c)) ∷
+    form "total" 0 (Command.OnLedger Call.Total) ∷
     form "day" 3 Command.Day ∷
     form "date" 1 Command.Date ∷
     form "price" 2 Command.Price ∷

@@ -2,6 +2,8 @@
 use crate::pieces::Found;
 use crate::pieces::find;
 use crate::pieces::find_word;
+use model::Call;
+use model::Request;
 ghost use mathlib.Core.Path.{_≡_};
 ghost use Prim.Native.Nat.{_≤_, _<_};
 ghost use lib.ListN.{length, take};
@@ -11,60 +13,14 @@ ghost use Rattle.text.specs.Numbers.{decimalValue, numberOf, numbersOf};
 ghost use Rattle.text.specs.Commands.{forms, mostNumbers, commandOf};
 ghost use Rattle.text.specs.ReadingSteps.{exactly, numbersIf, formAt, commandFrom};
 
-// What a line asks for: a call with its numbers.
+// What a line asks for.
 pub enum Command {
-    Start {
-        territory: u32,
-    },
-    Open {
-        contract: u32,
-        fuel: u32,
-        kind: u32,
-        price_fix_day: u32,
-        entry_day: u32,
-    },
-    Bill {
-        contract: u32,
-        first: u32,
-        last: u32,
-        kwh: u32,
-        supply: u32,
-        wap: u32,
-    },
-    Rebill {
-        contract: u32,
-        first: u32,
-        last: u32,
-        kwh: u32,
-        supply: u32,
-        wap: u32,
-    },
-    Cert {
-        contract: u32,
-        class: u32,
-        effective_day: u32,
-    },
-    Cancel {
-        contract: u32,
-        first: u32,
-    },
-    Claim,
-    Report {
-        contract: u32,
-    },
-    Total,
-    Day {
-        year: u32,
-        month: u32,
-        day: u32,
-    },
-    Date {
-        day: u32,
-    },
-    Price {
-        index: u32,
-        value: u32,
-    },
+    Start { territory: u32 },
+    // A call of a history on the ledger.
+    OnLedger(Call),
+    Day { year: u32, month: u32, day: u32 },
+    Date { day: u32 },
+    Price { index: u32, value: u32 },
     // A line that can't be read.
     Unreadable,
 }
@@ -168,29 +124,6 @@ fn count_at(place: usize) -> usize
     COUNTS[place]
 }
 
-// The command of a call from `claim` to `price`, by its place in the table of names, with the first of the numbers.
-fn later_command_at(place: usize, n: [u32; MOST_NUMBERS]) -> Command
-    requires { ⌜ 6 ≤ place ⌝ }
-    ensures { λ r. ⌜ r ≡ commandFrom (formAt place .count) (formAt place .make) n 0 ⌝ }
-{
-    let a = n[0];
-    let b = n[1];
-    let c = n[2];
-    match place {
-        6 => Command::Claim,
-        7 => Command::Report { contract: a },
-        8 => Command::Total,
-        9 => Command::Day {
-            year: a,
-            month: b,
-            day: c,
-        },
-        10 => Command::Date { day: a },
-        11 => Command::Price { index: a, value: b },
-        _ => Command::Unreadable,
-    }
-}
-
 // The command of a call, by its place in the table of names, with the first of the numbers.
 fn command_at(place: usize, n: [u32; MOST_NUMBERS]) -> Command
     ensures { λ r. ⌜ r ≡ commandFrom (formAt place .count) (formAt place .make) n 0 ⌝ }
@@ -203,39 +136,49 @@ fn command_at(place: usize, n: [u32; MOST_NUMBERS]) -> Command
     let f = n[5];
     match place {
         0 => Command::Start { territory: a },
-        1 => Command::Open {
+        1 => Command::OnLedger(Call::Open {
             contract: a,
             fuel: b,
             kind: c,
             price_fix_day: d,
             entry_day: e,
-        },
-        2 => Command::Bill {
+        }),
+        2 => Command::OnLedger(Call::Bill(Request {
             contract: a,
             first: b,
             last: c,
             kwh: d,
             supply: e,
             wap: f,
-        },
-        3 => Command::Rebill {
+        })),
+        3 => Command::OnLedger(Call::Rebill(Request {
             contract: a,
             first: b,
             last: c,
             kwh: d,
             supply: e,
             wap: f,
-        },
-        4 => Command::Cert {
+        })),
+        4 => Command::OnLedger(Call::Cert {
             contract: a,
             class: b,
             effective_day: c,
-        },
-        5 => Command::Cancel {
+        }),
+        5 => Command::OnLedger(Call::Cancel {
             contract: a,
             first: b,
+        }),
+        6 => Command::OnLedger(Call::Claim),
+        7 => Command::OnLedger(Call::Report { contract: a }),
+        8 => Command::OnLedger(Call::Total),
+        9 => Command::Day {
+            year: a,
+            month: b,
+            day: c,
         },
-        _ => later_command_at(place, n),
+        10 => Command::Date { day: a },
+        11 => Command::Price { index: a, value: b },
+        _ => Command::Unreadable,
     }
 }
 

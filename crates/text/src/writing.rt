@@ -1,25 +1,11 @@
 // Writing: an answer as a line.
+use model::Told;
 ghost use mathlib.Core.Path.{_≡_};
-ghost use Prim.Native.Nat.{_+_, _≤_};
+ghost use Prim.Native.Nat.{_+_, _*_, _≤_};
 ghost use lib.IntN.{natAbs};
-ghost use lib.ListN.{length};
+ghost use lib.ListN.{length, take};
 ghost use Rattle.text.specs.Numbers.{digits, isNegative, signed};
-ghost use Rattle.text.specs.Lines.{Wrote, WroteWithin, spacedNumber, wordsText, wordsRoom, lineText, lineRoom};
-
-// A number of an answer.
-pub enum Number {
-    Natural(u64),
-    Integer(i64),
-}
-
-// What a line says: refused with a number, or ok with no, one, two or three numbers.
-pub enum Line {
-    Refused(u32),
-    Ok,
-    Ok1(Number),
-    Ok2(Number, Number),
-    Ok3(Number, Number, Number),
-}
+ghost use Rattle.text.specs.Lines.{Wrote, WroteWithin, spacedNumber, numbersText, wordsText, wordsRoom, lineText, lineRoom};
 
 // Writes the bytes of a text from `at` on.
 fn write_text(out: &mut [u8], at: usize, text: &[u8]) -> usize
@@ -80,51 +66,47 @@ fn write_integer(out: &mut [u8], at: usize, x: i64) -> usize
 }
 
 // Writes a space and a number from `at` on: at most 21 bytes.
-fn write_number(out: &mut [u8], at: usize, number: Number) -> usize
+fn write_number(out: &mut [u8], at: usize, number: i64) -> usize
     requires { ⌜ at + 21 ≤ length (now out) ⌝ }
     ensures { λ r. ⌜ WroteWithin 21 (now (out .entry)) (now (out .exit)) at r (spacedNumber number) ⌝ }
 {
     let p = write_text(out, at, b" ");
-    match number {
-        Number::Natural(n) => write_digits(out, p, n),
-        Number::Integer(z) => write_integer(out, p, z),
+    write_integer(out, p, number)
+}
+
+// Writes the first `count` numbers from `at` on, each after a space.
+fn write_numbers(out: &mut [u8], at: usize, count: usize, numbers: [i64; 3]) -> usize
+    requires { ⌜ (count ≤ 3) × (at + 21 * count ≤ length (now out)) ⌝ }
+    ensures { λ r. ⌜ WroteWithin (21 * count) (now (out .entry)) (now (out .exit)) at r (numbersText (take count numbers)) ⌝ }
+{
+    let mut p = at;
+    let mut k: usize = 0;
+    while k < count {
+        p = write_number(out, p, numbers[k]);
+        k += 1;
     }
+    p
 }
 
 // Writes a line without its line feed from `at` on.
-fn write_words(out: &mut [u8], at: usize, line: Line) -> usize
-    requires { ⌜ at + wordsRoom line ≤ length (now out) ⌝ }
-    ensures { λ r. ⌜ WroteWithin (wordsRoom line) (now (out .entry)) (now (out .exit)) at r (wordsText line) ⌝ }
+fn write_words(out: &mut [u8], at: usize, told: Told) -> usize
+    requires { ⌜ (told .count ≤ 3) × (at + wordsRoom told ≤ length (now out)) ⌝ }
+    ensures { λ r. ⌜ WroteWithin (wordsRoom told) (now (out .entry)) (now (out .exit)) at r (wordsText told) ⌝ }
 {
-    match line {
-        Line::Refused(n) => {
-            let p = write_text(out, at, b"refused ");
-            write_digits(out, p, n as u64)
-        }
-        Line::Ok => write_text(out, at, b"ok"),
-        Line::Ok1(a) => {
-            let p = write_text(out, at, b"ok");
-            write_number(out, p, a)
-        }
-        Line::Ok2(a, b) => {
-            let p = write_text(out, at, b"ok");
-            let q = write_number(out, p, a);
-            write_number(out, q, b)
-        }
-        Line::Ok3(a, b, c) => {
-            let p = write_text(out, at, b"ok");
-            let q = write_number(out, p, a);
-            let r = write_number(out, q, b);
-            write_number(out, r, c)
-        }
+    if told.refused == 0 {
+        let p = write_text(out, at, b"ok");
+        let numbers = told.numbers;
+        return write_numbers(out, p, told.count, numbers);
     }
+    let p = write_text(out, at, b"refused ");
+    write_digits(out, p, told.refused as u64)
 }
 
 // Writes a line from `at` on, and gives the place after it.
-pub fn write_line(out: &mut [u8], at: usize, line: Line) -> usize
-    requires { ⌜ at + lineRoom line ≤ length (now out) ⌝ }
-    ensures { λ r. ⌜ WroteWithin (lineRoom line) (now (out .entry)) (now (out .exit)) at r (lineText line) ⌝ }
+pub fn write_line(out: &mut [u8], at: usize, told: Told) -> usize
+    requires { ⌜ (told .count ≤ 3) × (at + lineRoom told ≤ length (now out)) ⌝ }
+    ensures { λ r. ⌜ WroteWithin (lineRoom told) (now (out .entry)) (now (out .exit)) at r (lineText told) ⌝ }
 {
-    let p = write_words(out, at, line);
+    let p = write_words(out, at, told);
     write_text(out, p, b"\n")
 }

@@ -1,9 +1,10 @@
 -- `cancel` is refused, or answers and leaves what an accepted call does.
 use mathlib.Core.Path.{_≡_, sym, _∙_}
 use Rattle.model.specs.Calls.{callCancel}
-use Rattle.ledger.specs.declared.check.Checked.the-variants.{WellFormed}
-use Rattle.ledger.specs.Check.{checkedOf}
-use Rattle.ledger.proofs.Machine.{check-sound, searched}
+use Rattle.layout.specs.declared.Checked.the-variants.{WellFormed}
+use Rattle.layout.specs.Present.{checkedOf}
+use Rattle.layout.proofs.Present.{present}
+use Rattle.layout.proofs.Machine.{check-sound, searched}
 use Rattle.bill_calls.proofs.CheckedCalls.{malformed-meets, refused-meets, call-accepted, accepted-meets}
 use borrow.Author.Needs.{needs}
 use Rattle.bill_calls.proofs.cancel.Statement.{statement}
@@ -17,7 +18,7 @@ returns : tie.Need-returns
 returns c = malformed-meets _ _ (sym (c .enum-told .given .1) ∙ c .before .before .check .ensures)
 
 refused-cancel-requires : tie.Need-refused-cancel-requires
-refused-cancel-requires c κs = searched _ (check-sound _ _ _ (checked (c .before)))
+refused-cancel-requires c κs = searched present _ (check-sound present _ _ _ (checked (c .before)))
 
 returns-2 : tie.Need-returns-2
 returns-2 c = refused-meets _ _ _ _ _ (checked (c .before .before .before)) (c .before .refused-cancel .ensures) (c .if1 .taken)

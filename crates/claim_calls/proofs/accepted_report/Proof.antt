@@ -5,19 +5,18 @@ use Prim.Native.Nat.{ℕ, _+_, _-_, _*_, _≤_, _<_}
 use native.Mathlib.Omega.{arith}
 use lib.ListN.{length, getD}
 use Rattle.model.specs.declared.Row.{Row}
-use Rattle.model.specs.Document01.{document01}
 use Rattle.model.specs.Ledger.{Ledger}
-use Rattle.layout.specs.Layout.{ledgerOf}
-use Rattle.layout.specs.PackedLedger.{packedLayout}
 use Rattle.layout.proofs.PackedLedger.{packed-format}
-use Rattle.ledger.proofs.HeldRows.{formed-length, rows-most, row-held}
+use Rattle.layout.proofs.Present.{formed-length, present}
+use Rattle.layout.proofs.HeldRows.{rows-most, row-held}
+use Rattle.layout.specs.Present.{facts}
 use Rattle.claim_calls.proofs.ReportSums.{ReportedTo, reported-none, reported-this, reported-other, reported-low, reported-all}
 use borrow.Author.Needs.{needs}
 use Rattle.claim_calls.proofs.accepted_report.Statement.{statement}
 use Rattle.claim_calls.proofs.accepted_report.Tie as tie
 
 abbrev Inv-loop : tie.InvT-loop
-Inv-loop ledger rows contract count₀ kwh₀ due₀ i₀ count kwh due i = (i ≤ rows) × ReportedTo contract (ledgerOf document01 packedLayout ledger .rows) i count kwh due
+Inv-loop ledger rows contract count₀ kwh₀ due₀ i₀ count kwh due i = (i ≤ rows) × ReportedTo contract (facts ledger .rows) i count kwh due
 
 abbrev μ-loop : tie.MeasureT-loop
 μ-loop ledger rows contract count₀ kwh₀ due₀ i₀ count kwh due i = rows - i
@@ -29,11 +28,11 @@ row-at-requires : tie.Need-row-at-requires Inv-loop μ-loop
 row-at-requires c κs =
     let start = c .before .before .before in
     let b = start .args .ledger .now in
-    (formed-length b (start .pre .formed), omega (arith, start .pre .count, rows-most b (start .pre .formed)))
+    (formed-length b (start .pre .formed), omega (arith, start .pre .count, rows-most present b (start .pre .formed)))
 
 -- the ledger's facts
-abbrev facts : tie.Start Inv-loop μ-loop → Ledger
-facts start = ledgerOf document01 packedLayout (start .args .ledger .now)
+abbrev held : tie.Start Inv-loop μ-loop → Ledger
+held start = facts (start .args .ledger .now)
 
 -- the row at hand, counted or passed over
 module _ (c : tie.After-struct-known Inv-loop μ-loop) where
@@ -44,25 +43,25 @@ module _ (c : tie.After-struct-known Inv-loop μ-loop) where
   start = at-loop .before .before
 
   abbrev To : (i rows kwh due : ℕ) → Type 0
-  To = ReportedTo (start .args .contract) (facts start .rows)
+  To = ReportedTo (start .args .contract) (held start .rows)
 
   abbrev row : Row
   row = c .before .before .row-at .result
 
-  inside : at-loop .loop .i < length (facts start .rows)
+  inside : at-loop .loop .i < length (held start .rows)
   inside = omega (arith, start .pre .count, c .before .before .before .loop-test .taken)
 
-  read : row ≡ getD (facts start .rows) (at-loop .loop .i) row
-  read = c .before .before .row-at .ensures ∙ row-held (start .args .ledger .now) (start .pre .formed) (at-loop .loop .i) row inside
+  read : row ≡ getD (held start .rows) (at-loop .loop .i) row
+  read = c .before .before .row-at .ensures ∙ row-held present (start .args .ledger .now) (start .pre .formed) (at-loop .loop .i) row inside
 
   this : row .bill .contract ≡ start .args .contract → To (at-loop .loop .i + 1) (at-loop .loop .count + 1) (at-loop .loop .kwh + row .bill .kwh) (at-loop .loop .due + row .amount)
-  this = reported-this (start .args .contract) (facts start .rows) _ _ _ _ (at-loop .loop .inv .1) row read inside
+  this = reported-this (start .args .contract) (held start .rows) _ _ _ _ (at-loop .loop .inv .1) row read inside
 
   other : row .bill .contract ≢ start .args .contract → To (at-loop .loop .i + 1) (at-loop .loop .count) (at-loop .loop .kwh) (at-loop .loop .due)
-  other = reported-other (start .args .contract) (facts start .rows) _ _ _ _ (at-loop .loop .inv .1) row read inside
+  other = reported-other (start .args .contract) (held start .rows) _ _ _ _ (at-loop .loop .inv .1) row read inside
 
   low : (i rows kwh due : ℕ) → To i rows kwh due → (rows ≤ 1024) × ((kwh ≤ 1024 * 100000000) × (due ≤ 1024 * 1000000000000000))
-  low i rows kwh due r = reported-low (start .args .contract) (facts start) i rows kwh due r (packed-format .unpacked (start .args .ledger .now) (start .pre .formed))
+  low i rows kwh due r = reported-low (start .args .contract) (held start) i rows kwh due r (packed-format .unpacked (start .args .ledger .now) (start .pre .formed))
 
 add-count : tie.Need-add-count Inv-loop μ-loop
 add-count c = let r = this (c .before) (c .if1 .taken) in record { fits = omega (arith, low (c .before) _ _ _ _ r .0) }
@@ -86,7 +85,7 @@ loop-again c =
 returns : tie.Need-returns Inv-loop μ-loop
 returns c =
     let start = c .before .before .before in
-    reported-all (start .args .contract) (facts start) _ _ _ _ (c .before .loop .inv .1) (omega (arith, start .pre .count))
+    reported-all (start .args .contract) (held start) _ _ _ _ (c .before .loop .inv .1) (omega (arith, start .pre .count))
 
 pub accepted-report-spec : {M : Type 1} → statement M
 accepted-report-spec =

@@ -5,7 +5,8 @@ use native.Mathlib.Omega.{arith}
 use lib.IntN.{ℤ}
 use Rattle.model.specs.declared.Answer.the-variants.{Claimed}
 use Rattle.model.specs.Calls.{callClaim}
-use Rattle.ledger.proofs.Machine.{Sound, check-sound, answered-and-left, malformed-refused}
+use Rattle.layout.proofs.Present.{Sound, present}
+use Rattle.layout.proofs.Machine.{check-sound, answered-and-left, malformed-refused}
 use Rattle.signed.proofs.SignedDifferences.{signed-read}
 use Rattle.claim_calls.proofs.CallAnswers.{header-there, due-fits, territory-fits, pence-fits, claim-refused, claim-accepted}
 use borrow.Author.Needs.{needs}
@@ -16,11 +17,11 @@ returns : tie.Need-returns
 returns c =
     let at-check = c .before .before in
     let b = at-check .before .before .before .args .ledger .now in
-    answered-and-left (malformed-refused b callClaim (sym (c .enum-told .given .1) ∙ at-check .check .ensures))
+    answered-and-left (malformed-refused present b callClaim (sym (c .enum-told .given .1) ∙ at-check .check .ensures))
 
 -- the check found the ledger well formed
 sound : (c : tie.After-known-told) → Sound (c .before .before .before .before .before .before .args .ledger .now) (c .before .due .given .0 .0) (c .before .due .given .0 .1 .0)
-sound c = check-sound _ _ _ (sym (c .before .due .given .1) ∙ c .before .before .before .check .ensures)
+sound c = check-sound present _ _ _ (sym (c .before .due .given .1) ∙ c .before .before .before .check .ensures)
 
 claims-requires : tie.Need-claims-requires
 claims-requires c κs = header-there _ (sound (c .before))

@@ -2,8 +2,8 @@
 use mathlib.Core.Path.{sym, _∙_}
 use native.Mathlib.Omega.{arith}
 use Rattle.basics.proofs.Tests.{not-yes, not-no}
-use Rattle.ledger.proofs.HeldRows.{formed-length}
-use Rattle.ledger.proofs.Machine.{Sound, check-sound, searched, malformed-refused}
+use Rattle.layout.proofs.Present.{formed-length, Sound, present}
+use Rattle.layout.proofs.Machine.{check-sound, searched, malformed-refused}
 use Rattle.claim_calls.proofs.CallAnswers.{report-bad-number, report-not-open, report-accepted}
 use borrow.Author.Needs.{needs}
 use Rattle.claim_calls.proofs.report.Statement.{statement}
@@ -13,11 +13,11 @@ returns : tie.Need-returns
 returns c =
     let at-check = c .before .before in
     let b = at-check .before .before .args .ledger .now in
-    sym (malformed-refused b _ (sym (c .enum-told .given .1) ∙ at-check .check .ensures) .answered)
+    sym (malformed-refused present b _ (sym (c .enum-told .given .1) ∙ at-check .check .ensures) .answered)
 
 -- the check found the ledger well formed
 sound : (c : tie.After-known-told) → Sound (c .before .before .before .before .before .args .ledger .now) (c .before .rows .given .0 .0) (c .before .rows .given .0 .1 .0)
-sound c = check-sound _ _ _ (sym (c .before .rows .given .1) ∙ c .before .before .before .check .ensures)
+sound c = check-sound present _ _ _ (sym (c .before .rows .given .1) ∙ c .before .before .before .check .ensures)
 
 returns-2 : tie.Need-returns-2
 returns-2 c = sym (report-bad-number _ _ (sound (c .before) .formed) (c .if1 .taken) .answered)
@@ -31,7 +31,7 @@ returns-3 c =
     sym (report-not-open _ _ (sound (at-number .before) .formed) (at-number .if1 .left) (sym (c .before .is-open .ensures) ∙ not-yes _ (c .if2 .taken)) .answered)
 
 accepted-report-requires : tie.Need-accepted-report-requires
-accepted-report-requires c κs = searched _ (sound (c .before .before .before))
+accepted-report-requires c κs = searched present _ (sound (c .before .before .before))
 
 returns-4 : tie.Need-returns-4
 returns-4 c =

@@ -3,7 +3,8 @@ use mathlib.Core.Path.{sym, ap, _∙_}
 use native.Mathlib.Omega.{arith}
 use Rattle.model.specs.declared.Answer.the-variants.{Totalled}
 use Rattle.model.specs.Calls.{callTotal}
-use Rattle.ledger.proofs.Machine.{Sound, check-sound, malformed-refused}
+use Rattle.layout.proofs.Present.{Sound, present}
+use Rattle.layout.proofs.Machine.{check-sound, malformed-refused}
 use Rattle.signed.proofs.SignedDifferences.{signed-read}
 use Rattle.claim_calls.proofs.CallAnswers.{header-there, due-fits, pence-fits, total-accepted}
 use borrow.Author.Needs.{needs}
@@ -14,11 +15,11 @@ returns : tie.Need-returns
 returns c =
     let at-check = c .before .before in
     let b = at-check .before .before .args .ledger .now in
-    sym (malformed-refused b callTotal (sym (c .enum-told .given .1) ∙ at-check .check .ensures) .answered)
+    sym (malformed-refused present b callTotal (sym (c .enum-told .given .1) ∙ at-check .check .ensures) .answered)
 
 -- the check found the ledger well formed
 sound : (c : tie.After-known-told) → Sound (c .before .before .before .before .before .args .ledger .now) (c .before .due .given .0 .0) (c .before .due .given .0 .1 .0)
-sound c = check-sound _ _ _ (sym (c .before .due .given .1) ∙ c .before .before .before .check .ensures)
+sound c = check-sound present _ _ _ (sym (c .before .due .given .1) ∙ c .before .before .before .check .ensures)
 
 pence-requires : tie.Need-pence-requires
 pence-requires c κs = header-there _ (sound c)

@@ -6,12 +6,11 @@ use Rattle.model.specs.Codes.{certify}
 use Rattle.model.specs.Contracts.{contractAt}
 use Rattle.model.specs.Calls.{callCert}
 use Rattle.model.specs.Rules.{refusal}
-use Rattle.model.specs.Document01.{document01}
 use Rattle.model.specs.Ledger.{view}
 use Rattle.layout.specs.Layout.{ledgerOf}
-use Rattle.layout.specs.PackedLedger.{packedLayout}
-use Rattle.ledger.proofs.HeldRows.{formed-length}
-use Rattle.ledger.proofs.Machine.{Sound, check-sound, searched, answered-and-left, malformed-refused, number-refused}
+use Rattle.layout.proofs.Present.{formed-length, Sound, present}
+use Rattle.layout.proofs.Machine.{check-sound, searched, answered-and-left, malformed-refused, number-refused}
+use Rattle.layout.specs.Present.{rules, facts}
 use Rattle.contract_calls.proofs.Certifying.{certified-number, certified-open, certified-fits, sums-low, cert-answers}
 use Rattle.signed.proofs.SignedDifferences.{signed-read}
 use borrow.Author.Needs.{needs}
@@ -20,29 +19,29 @@ use Rattle.contract_calls.proofs.cert.Tie as tie
 
 -- what the check that found the ledger well formed says
 sound : (c : tie.After-rows) → Sound (c .before .before .before .before .before .args .ledger .now) (c .rows .given .0 .0) (c .rows .given .0 .1 .0)
-sound c = check-sound _ _ _ (sym (c .rows .given .1) ∙ c .before .before .check .ensures)
+sound c = check-sound present _ _ _ (sym (c .rows .given .1) ∙ c .before .before .check .ensures)
 
 -- no number turns the call down
 accepted : (c : tie.Else1) → let a = c .before .before .before .before .before .before .before .before .before .args in
-    refusal document01 (view (ledgerOf document01 packedLayout (a .ledger .now))) (callCert (a .contract) (a .class) (a .effective-day)) ≡ 0
+    refusal rules (view (facts (a .ledger .now))) (callCert (a .contract) (a .class) (a .effective-day)) ≡ 0
 accepted c = sym (c .before .refused-cert .ensures) ∙ c .if1 .left
 
 -- the contract with its new certificate
 made : (c : tie.After-certify) → let a = c .before .before .before .before .before .before .before .before .before .before .before .before .args in
-    c .certify .result ≡ certify (contractAt (ledgerOf document01 packedLayout (a .ledger .now) .contracts) (a .contract)) (a .class) (a .effective-day)
+    c .certify .result ≡ certify (contractAt (facts (a .ledger .now) .contracts) (a .contract)) (a .class) (a .effective-day)
 unfolding ledgerOf
 made c =
     let a = c .before .before .before .before .before .before .before .before .before .before .before .before .args in
     c .certify .ensures ∙ ap (λ (k : Contract). certify k (a .class) (a .effective-day)) (c .before .contract-at .ensures)
 
 returns : tie.Need-returns
-returns c = answered-and-left (malformed-refused _ _ (sym (c .enum-told .given .1) ∙ c .before .before .check .ensures))
+returns c = answered-and-left (malformed-refused present _ _ (sym (c .enum-told .given .1) ∙ c .before .before .check .ensures))
 
 refused-cert-requires : tie.Need-refused-cert-requires
 refused-cert-requires c κs = formed-length _ (sound (c .before .before) .formed)
 
 returns-2 : tie.Need-returns-2
-returns-2 c = answered-and-left (number-refused _ _ _ (sound (c .before .before .before .before)) (c .before .refused-cert .ensures) (c .if1 .taken))
+returns-2 c = answered-and-left (number-refused present _ _ _ (sound (c .before .before .before .before)) (c .before .refused-cert .ensures) (c .if1 .taken))
 
 contract-at-requires : tie.Need-contract-at-requires
 contract-at-requires c κs =
@@ -50,7 +49,7 @@ contract-at-requires c κs =
     (formed-length _ (sound (passed .before .before .before .before) .formed), (certified-number _ _ _ _ (accepted passed), certified-open _ _ _ _ (accepted passed)))
 
 rerate-rows-requires : tie.Need-rerate-rows-requires
-rerate-rows-requires c κs = searched _ (sound (c .before .before .before .before .before .before .before .before))
+rerate-rows-requires c κs = searched present _ (sound (c .before .before .before .before .before .before .before .before))
 
 write-contract-requires : tie.Need-write-contract-requires
 write-contract-requires c κs =

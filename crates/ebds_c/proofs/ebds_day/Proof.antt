@@ -1,12 +1,13 @@
 -- `ebds_day` gives what `day` answers.
 use mathlib.Core.Path.{ap, _∙_}
-use Rattle.calendar.specs.Answers.{dayRefusalNumber, dayAnswerValues}
+use Rattle.calls.specs.Told.{toldDay}
 use borrow.Author.Needs.{needs}
+use Rattle.ebds_c.proofs.Given.{given-told}
 use Rattle.ebds_c.proofs.ebds_day.Statement.{statement}
 use Rattle.ebds_c.proofs.ebds_day.Tie as tie
 
 returns : tie.Need-returns
-returns c = let said = c .before .before .day .ensures in (c .give-day .ensures .0 ∙ ap dayRefusalNumber said, c .give-day .ensures .1 ∙ ap dayAnswerValues said)
+returns c = given-told (c .give .ensures) (c .before .before .tell-day .ensures ∙ ap toldDay (c .before .before .before .day .ensures))
 
 pub ebds-day-spec : {M : Type 1} → statement M
-ebds-day-spec = tie.close (tie.spec (λ c κs. search needs) (λ c κs. search needs) returns)
+ebds-day-spec = tie.close (tie.spec (λ c κs. search needs) (λ c κs. search needs) (λ c κs. search needs) returns)

@@ -1,14 +1,17 @@
 -- `ebds_report` gives what the call answers.
-use Rattle.ebds_c.proofs.AnswersFit.{machine-fits, same-fits, same-given}
+use mathlib.Core.Path.{ap, _∙_}
+use Rattle.model.specs.Calls.{toldOf}
+use Rattle.calls.proofs.AnswersFit.{machine-fits, same-fits}
 use borrow.Author.Needs.{needs}
+use Rattle.ebds_c.proofs.Given.{given-told}
 use Rattle.ebds_c.proofs.ebds_report.Statement.{statement}
 use Rattle.ebds_c.proofs.ebds_report.Tie as tie
 
-give-requires : tie.Need-give-requires
-give-requires c κs = same-fits (c .before .report .ensures) (machine-fits _ _)
+tell-requires : tie.Need-tell-requires
+tell-requires c κs = same-fits (c .report .ensures) (machine-fits _ _)
 
 returns : tie.Need-returns
-returns c = same-given (c .before .before .report .ensures) (c .give .ensures)
+returns c = given-told (c .give .ensures) (c .before .before .tell .ensures ∙ ap toldOf (c .before .before .before .report .ensures))
 
 pub ebds-report-spec : {M : Type 1} → statement M
-ebds-report-spec = tie.close (tie.spec (λ c κs. search needs) give-requires returns)
+ebds-report-spec = tie.close (tie.spec (λ c κs. search needs) tell-requires (λ c κs. search needs) returns)

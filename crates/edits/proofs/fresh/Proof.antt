@@ -5,7 +5,7 @@ use Prim.Native.Nat.{ℕ}
 use lib.ListN.{replicate}
 use Rattle.records.specs.Pack.{pack}
 use Rattle.records.specs.Edits.{replaceAt}
-use Rattle.layout.specs.PackedLedger.{packedLayout}
+use Rattle.layout.specs.Present.{layout}
 use Rattle.edits.proofs.PackedChanges.{fresh-ledger}
 use borrow.Author.Needs.{needs}
 use Rattle.edits.proofs.fresh.Statement.{statement}
@@ -18,7 +18,7 @@ returns c =
     let start = at-clear .before .before .before in
     let t = start .args .territory in
     at-header .write-header .ensures
-    ∙ ap (replaceAt 0 (pack (packedLayout .header) (t ∷ 0 ∷ 0 ∷ []))) (at-clear .clear .ensures ∙ ap (λ (n : ℕ). replicate n 0) (start .pre .0))
+    ∙ ap (replaceAt 0 (pack (layout .header) (t ∷ 0 ∷ 0 ∷ []))) (at-clear .clear .ensures ∙ ap (λ (n : ℕ). replicate n 0) (start .pre .0))
     ∙ sym (fresh-ledger t)
 
 pub fresh-spec : {M : Type 1} → statement M

@@ -8,7 +8,7 @@ use Rattle.records.specs.Edits.{insertAt}
 use Rattle.records.proofs.Edits.{part-lent}
 use Rattle.layout.specs.PackedLedger.{rowKind}
 use Rattle.layout.specs.Offsets.{firstRow, rowLength}
-use Rattle.codec.specs.Slots.{recordBytes}
+use Rattle.records.specs.OneSlot.{recordBytes}
 use borrow.Author.Needs.{needs}
 use Rattle.edits.proofs.insert_row.Statement.{statement}
 use Rattle.edits.proofs.insert_row.Tie as tie

@@ -9,7 +9,7 @@ use Rattle.model.specs.declared.Row.{Row}
 use Rattle.model.specs.Ledger.{withAmount}
 use Rattle.layout.specs.PackedLedger.{rowKind}
 use Rattle.layout.specs.Offsets.{firstRow, rowLength}
-use Rattle.codec.specs.Slots.{recordIn, recordBytes}
+use Rattle.records.specs.OneSlot.{recordIn, recordBytes}
 use Rattle.edits.proofs.Parts.{part-written}
 use Rattle.edits.proofs.PackedChanges.{length-row}
 use borrow.Author.Needs.{needs}

@@ -9,7 +9,7 @@ use Rattle.text.proofs.Writes.{wrote-same}
 use Rattle.session.specs.Replies.{State, holding, reply, next}
 use Rattle.session.specs.Transcript.{outputPerByte}
 use borrow.Author.Needs.{needs}
-use Rattle.session.proofs.ReplyRoom.{line-room}
+use Rattle.session.proofs.ReplyRoom.{line-room, reply-count}
 use Rattle.session.proofs.reply_to_line.Statement.{statement}
 use Rattle.session.proofs.reply_to_line.Tie as tie
 
@@ -29,7 +29,7 @@ fits c = line-room (before c) (start c .args .line .now) (said c)
 write-line-requires : tie.Need-write-line-requires
 write-line-requires c κs =
     let r = c .before .before .before .before .before in
-    omega (arith, fits r, start r .pre .1)
+    (rw (said r) (reply-count (before r) (commandOf (start r .args .line .now))), omega (arith, fits r, start r .pre .1))
 
 returns : tie.Need-returns
 returns c =

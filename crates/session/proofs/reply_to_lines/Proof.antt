@@ -5,7 +5,6 @@ use Prim.Native.Nat.{_-_}
 use native.Mathlib.Omega.{arith}
 use lib.Arith.{lt-of-le-ne}
 use lib.ListN.{length, drop, length-take, length-drop}
-use Rattle.text.proofs.LineRoom.{refused-room}
 use Rattle.session.specs.Replies.{holding}
 use Rattle.session.proofs.Lines.{Reached, nothing-reached, all-reached, cut-reached, line-reached}
 use Rattle.session.proofs.reply_to_lines.Statement.{statement}
@@ -23,11 +22,11 @@ loop-holds c = nothing-reached _ _ _
 find-requires : tie.Need-find-requires Inv-loop μ-loop
 find-requires c κs = c .before .loop .inv .within
 
-write-line-requires : tie.Need-write-line-requires Inv-loop μ-loop
-write-line-requires c κs =
+write-unreadable-requires : tie.Need-write-unreadable-requires Inv-loop μ-loop
+write-unreadable-requires c κs =
     let i = c .before .before .before in
     let l = i .before in
-    omega (arith, refused-room 0 1 (omega arith), l .loop .inv .room, l .loop .inv .long, i .loop-test .taken, l .before .before .before .before .before .pre .1)
+    omega (arith, l .loop .inv .room, l .loop .inv .long, i .loop-test .taken, l .before .before .before .before .before .pre .1)
 
 same-length : tie.Need-same-length Inv-loop μ-loop
 same-length c = c .before .before .before .before .before .before .before .loop .inv .ledger
@@ -38,7 +37,7 @@ same-length-2 c = c .before .before .before .before .before .before .before .loo
 same-length-3 : tie.Need-same-length-3 Inv-loop μ-loop
 same-length-3 c =
     let w = c .before .before in
-    w .write-line .kept .0 ∙ w .before .before .before .before .before .loop .inv .long
+    w .write-unreadable .kept .0 ∙ w .before .before .before .before .before .loop .inv .long
 
 returns : tie.Need-returns Inv-loop μ-loop
 returns c =
@@ -47,7 +46,7 @@ returns c =
     let f = t .before in
     let i = f .before in
     let l = i .before in
-    cut-reached (l .loop .inv) (f .find .ensures) (i .loop-test .taken) (t .if1 .taken) (w .write-line .ensures .wrote) (omega (arith, refused-room 0 1 (omega arith), w .write-line .ensures .within, l .loop .inv .room, i .loop-test .taken))
+    cut-reached (l .loop .inv) (f .find .ensures) (i .loop-test .taken) (t .if1 .taken) (w .write-unreadable .ensures .wrote) (omega (arith, w .write-unreadable .ensures .within, l .loop .inv .room, i .loop-test .taken))
 
 sub-reply-to-line : tie.Need-sub-reply-to-line Inv-loop μ-loop
 sub-reply-to-line c = omega (arith, c .before .find .ensures .first)
@@ -106,7 +105,7 @@ reply-to-lines-spec =
     μ-loop
     loop-holds
     find-requires
-    write-line-requires
+    write-unreadable-requires
     same-length
     same-length-2
     same-length-3

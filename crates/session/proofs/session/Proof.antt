@@ -4,7 +4,6 @@ use mathlib.Core.Path.{refl, sym, ap, _∙_}
 use Prim.Native.Nat.{ℕ}
 use native.Mathlib.Omega.{arith}
 use lib.ListN.{replicate}
-use Rattle.text.proofs.LineRoom.{refused-room}
 use Rattle.text.proofs.Writes.{wrote-same}
 use Rattle.session.specs.Replies.{holding, bookLength, initial}
 use borrow.Author.Needs.{needs}
@@ -12,14 +11,14 @@ use Rattle.session.proofs.Lines.{printedOf, long-input, whole-input}
 use Rattle.session.proofs.session.Statement.{statement}
 use Rattle.session.proofs.session.Tie as tie
 
-write-line-requires : tie.Need-write-line-requires
-write-line-requires c κs = omega (arith, refused-room 0 1 (omega arith), c .before .before .before .before .pre)
+write-unreadable-requires : tie.Need-write-unreadable-requires
+write-unreadable-requires c κs = omega (arith, c .before .before .before .before .pre)
 
 returns : tie.Need-returns
 returns c =
     let w = c .before .before in
     let t = w .before .before in
-    record { wrote = wrote-same (w .write-line .ensures .wrote) refl (sym (long-input _ (t .if1 .taken))); within = omega (arith, refused-room 0 1 (omega arith), w .write-line .ensures .within) }
+    record { wrote = wrote-same (w .write-unreadable .ensures .wrote) refl (sym (long-input _ (t .if1 .taken))); within = omega (arith, w .write-unreadable .ensures .within) }
 
 returns-2 : tie.Need-returns-2
 unfolding initial
@@ -37,7 +36,7 @@ pub session-spec : {M : Type 1} → statement M
 session-spec =
     tie.close
     (tie.spec
-    write-line-requires
+    write-unreadable-requires
     (λ c. search needs)
     returns
     (λ c. search needs)

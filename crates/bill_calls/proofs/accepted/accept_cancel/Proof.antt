@@ -1,7 +1,7 @@
 -- `accept_cancel` takes the row out and answers minus its amount.
 use Prim.Native.Nat.{_<_, _≤_}
 use native.Mathlib.Omega.{arith}
-use Rattle.ledger.proofs.HeldRows.{formed-length}
+use Rattle.layout.proofs.Present.{formed-length}
 use Rattle.signed.proofs.SignedDifferences.{signed-read}
 use Rattle.bill_calls.proofs.AcceptedRows.{named-place, named-amount, named-amount-low, cancel-held, cancel-left, cancel-answer}
 use borrow.Author.Needs.{needs}

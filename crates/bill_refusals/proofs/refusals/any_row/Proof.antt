@@ -3,9 +3,7 @@ use mathlib.Core.Path.{sym, ap, ap₂, _∙_}
 use Prim.Native.Nat.{ℕ}
 use lib.Dec.{ltb}
 use Rattle.model.proofs.Places.{count-at}
-use Rattle.model.specs.Document01.{document01}
-use Rattle.layout.specs.Layout.{ledgerOf}
-use Rattle.layout.specs.PackedLedger.{packedLayout}
+use Rattle.layout.specs.Present.{facts}
 use Rattle.ledger.specs.Rows.{rowPasses}
 use Rattle.bill_refusals.proofs.Tests.{view-held}
 use borrow.Author.Needs.{needs}
@@ -16,7 +14,7 @@ returns : tie.Need-returns
 returns c =
     let start = c .before .before in
     ap₂ (λ (m n : ℕ). ltb m n) (c .first-row .ensures) (start .pre .count)
-    ∙ sym (count-at (rowPasses (start .args .test)) (ledgerOf document01 packedLayout (start .args .b .now) .rows)) ∙ ap (ltb 0) (view-held (start .args .b .now) (rowPasses (start .args .test)))
+    ∙ sym (count-at (rowPasses (start .args .test)) (facts (start .args .b .now) .rows)) ∙ ap (ltb 0) (view-held (start .args .b .now) (rowPasses (start .args .test)))
 
 pub any-row-spec : {M : Type 1} → statement M
 any-row-spec = tie.close (tie.spec (λ c κs. search needs) returns)

@@ -4,7 +4,7 @@ use native.Mathlib.Omega.{arith}
 use Rattle.basics.proofs.Tests.{not-yes, not-no}
 use Rattle.bill_refusals.specs.Requests.{viewOf}
 use Rattle.model.specs.Contracts.{Contracts, isOpen}
-use Rattle.ledger.proofs.HeldRows.{formed-length}
+use Rattle.layout.proofs.Present.{formed-length}
 use Rattle.bill_refusals.proofs.Tests.{view-contracts, cancel-4, cancel-5, cancel-9, cancel-none}
 use borrow.Author.Needs.{needs}
 use Rattle.bill_refusals.proofs.refusals.refused_cancel.Statement.{statement}

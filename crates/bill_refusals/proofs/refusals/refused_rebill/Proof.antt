@@ -1,7 +1,7 @@
 -- `refused_rebill` gives the first refusal of a rebill that fits: of those before, and then of the others.
 use mathlib.Core.Path.{sym, _∙_}
 use Rattle.model.specs.Calls.{firstOf}
-use Rattle.bill_refusals.specs.Requests.{billRequest, sharedTests, rebillTests, viewOf}
+use Rattle.bill_refusals.specs.Requests.{sharedTests, rebillTests, viewOf}
 use Rattle.bill_refusals.proofs.Tests.{shared-passed, others-after, shared-first, rebill-refusal}
 use borrow.Author.Needs.{needs}
 use Rattle.bill_refusals.proofs.refusals.refused_rebill.Statement.{statement}
@@ -10,22 +10,22 @@ use Rattle.bill_refusals.proofs.refusals.refused_rebill.Tie as tie
 refused-row-again-requires : tie.Need-refused-row-again-requires
 refused-row-again-requires c κs =
     let start = c .before .before .before .before in
-    let passed = shared-passed (viewOf (start .args .b .now)) (billRequest (start .args .request) (start .args .book .now)) (sym (c .before .refused-request .ensures) ∙ c .if1 .taken) in
+    let passed = shared-passed (viewOf (start .args .b .now)) (start .args .request) (start .args .book .now) (sym (c .before .refused-request .ensures) ∙ c .if1 .taken) in
     record { searched = start .pre; low = passed .0; open′ = passed .1 }
 
 returns : tie.Need-returns
 returns c =
     let start = c .before .before .before .before .before in
     let v = viewOf (start .args .b .now) in
-    let q = billRequest (start .args .request) (start .args .book .now) in
-    c .refused-row-again .ensures ∙ others-after (firstOf (sharedTests v q)) (firstOf (rebillTests v q)) (rebill-refusal v q) (sym (c .before .before .refused-request .ensures) ∙ c .before .if1 .taken)
+    let q = (start .args .request) in let book = (start .args .book .now) in
+    c .refused-row-again .ensures ∙ others-after (firstOf (sharedTests v q book)) (firstOf (rebillTests v q book)) (rebill-refusal v q book) (sym (c .before .before .refused-request .ensures) ∙ c .before .if1 .taken)
 
 returns-2 : tie.Need-returns-2
 returns-2 c =
     let start = c .before .before .before .before in
     let v = viewOf (start .args .b .now) in
-    let q = billRequest (start .args .request) (start .args .book .now) in
-    c .before .refused-request .ensures ∙ shared-first (firstOf (sharedTests v q)) (firstOf (rebillTests v q)) (rebill-refusal v q) (λ z. c .if1 .left (c .before .refused-request .ensures ∙ z))
+    let q = (start .args .request) in let book = (start .args .book .now) in
+    c .before .refused-request .ensures ∙ shared-first (firstOf (sharedTests v q book)) (firstOf (rebillTests v q book)) (rebill-refusal v q book) (λ z. c .if1 .left (c .before .refused-request .ensures ∙ z))
 
 pub refused-rebill-spec : {M : Type 1} → statement M
 refused-rebill-spec =

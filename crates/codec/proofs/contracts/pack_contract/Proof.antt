@@ -10,7 +10,7 @@ use Rattle.records.specs.Slots.{whole, slotOut}
 use Rattle.codec.proofs.WholeSlots.{set-all}
 use mathlib.Core.Path.{_≡_, refl, ap, _∙_}
 use Rattle.layout.specs.PackedLedger.{contractKind}
-use Rattle.codec.specs.Slots.{recordBytes}
+use Rattle.records.specs.OneSlot.{recordBytes}
 use borrow.Author.Needs.{needs}
 use Rattle.codec.proofs.contracts.pack_contract.Statement.{statement}
 use Rattle.codec.proofs.contracts.pack_contract.Tie as tie

@@ -7,7 +7,7 @@ use Rattle.records.specs.Pack.{size, unpack}
 use Rattle.records.specs.Slots.{whole}
 use Rattle.records.proofs.Zeros.{zeroAt-fields}
 use Rattle.layout.specs.PackedLedger.{contractKind}
-use Rattle.codec.specs.Slots.{slotNumbers}
+use Rattle.records.specs.OneSlot.{slotNumbers}
 use Rattle.codec.proofs.ContractSlots.{padding-set, slot-closed, slot-opened}
 use borrow.Author.Needs.{needs}
 use Rattle.codec.proofs.contracts.slot_ok.Statement.{statement}

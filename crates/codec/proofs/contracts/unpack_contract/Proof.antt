@@ -1,7 +1,7 @@
 -- `unpack_contract` makes the contract of the slot's numbers.
 use Rattle.fields.specs.Fields.{fields}
 use Rattle.records.specs.Pack.{unpack}
-use Rattle.codec.specs.Slots.{recordIn, slotNumbers}
+use Rattle.records.specs.OneSlot.{recordIn, slotNumbers}
 use borrow.Author.Needs.{needs}
 use Rattle.codec.proofs.contracts.unpack_contract.Statement.{statement}
 use Rattle.codec.proofs.contracts.unpack_contract.Tie as tie

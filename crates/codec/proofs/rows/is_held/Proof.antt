@@ -5,7 +5,7 @@ use Prim.Native.Nat.{ℕ}
 use lib.Dec.{eqb}
 use Rattle.fields.specs.Fields.{fields}
 use Rattle.records.specs.Pack.{unpack}
-use Rattle.codec.specs.Slots.{isTaken, slotNumbers}
+use Rattle.records.specs.OneSlot.{isTaken, slotNumbers}
 use borrow.Author.Needs.{needs}
 use Rattle.codec.proofs.rows.is_held.Statement.{statement}
 use Rattle.codec.proofs.rows.is_held.Tie as tie

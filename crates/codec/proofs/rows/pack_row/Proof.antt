@@ -6,7 +6,7 @@ use Rattle.records.specs.Pack.{size, pack}
 use Rattle.records.specs.Slots.{whole, slotOut}
 use Rattle.layout.specs.PackedLedger.{rowKind}
 use Rattle.codec.proofs.WholeSlots.{set-all, whole-fits}
-use Rattle.codec.specs.Slots.{recordBytes}
+use Rattle.records.specs.OneSlot.{recordBytes}
 use borrow.Author.Needs.{needs}
 use Rattle.codec.proofs.rows.pack_row.Statement.{statement}
 use Rattle.codec.proofs.rows.pack_row.Tie as tie

@@ -8,10 +8,9 @@ use Rattle.codec.proofs.rows.put_amount.Tie as tie
 returns : tie.Need-returns
 returns c =
     let at-put = c .before .before in
-    let at-known = at-put .before .before in
-    let start = at-known .before in
+    let start = at-put .before .before .before in
     at-put .put-window .ensures
-    ∙ amount-written (start .args .s .now) (start .args .amount) (λ k. at-known .slice-known .given k .fits) (start .pre .0) (start .pre .1 .0) (start .pre .1 .1)
+    ∙ amount-written (start .args .s .now) (start .args .amount) (start .pre .1 .0) (start .pre .1 .1)
 
 pub put-amount-spec : {M : Type 1} → statement M
 put-amount-spec = tie.close (tie.spec (λ c κs. search needs) (λ c. search needs) returns)

@@ -1,7 +1,7 @@
 -- `unpack_row` makes the row of the slot's numbers.
 use Rattle.fields.specs.Fields.{fields}
 use Rattle.records.specs.Pack.{unpack}
-use Rattle.codec.specs.Slots.{recordIn, slotNumbers}
+use Rattle.records.specs.OneSlot.{recordIn, slotNumbers}
 use borrow.Author.Needs.{needs}
 use Rattle.codec.proofs.rows.unpack_row.Statement.{statement}
 use Rattle.codec.proofs.rows.unpack_row.Tie as tie

@@ -27,7 +27,7 @@ replace-amount-requires : tie.Need-replace-amount-requires
 replace-amount-requires c κs =
     let at-row = c .before .before .before .before .before in
     let start = at-row .before .before .before in
-    (start .pre .0, (start .pre .1 .0, (start .pre .1 .1 .taken, rated-low (start .args .terms) (at-row .row-at .result) (c .before .amount .result) (ratable at-row) (c .before .amount .ensures))))
+    (start .pre .0, (start .pre .1 .0, (start .pre .1 .1 .packed, rated-low (start .args .terms) (at-row .row-at .result) (c .before .amount .result) (ratable at-row) (c .before .amount .ensures))))
 
 returns-2 : tie.Need-returns-2
 returns-2 c =

@@ -3,10 +3,9 @@ use mathlib.Core.Path.{sym, _∙_, subst}
 use Prim.Native.Nat.{_+_, _-_, _<_, _≤_}
 use native.Mathlib.Omega.{arith}
 use lib.ListN.{length}
-use Rattle.model.specs.Document01.{document01}
-use Rattle.layout.specs.Layout.{ledgerOf}
-use Rattle.layout.specs.PackedLedger.{packedLayout}
-use Rattle.ledger.proofs.HeldRows.{formed-length, rows-most}
+use Rattle.layout.proofs.Present.{formed-length, present}
+use Rattle.layout.proofs.HeldRows.{rows-most}
+use Rattle.layout.specs.Present.{facts}
 use Rattle.contract_calls.proofs.RowsRerating.{Passed, none-passed, new-sum-low, changes-low, next-slot, row-passed, all-passed}
 use borrow.Author.Needs.{needs}
 use Rattle.contract_calls.proofs.rerating.rerate_rows.Statement.{statement}
@@ -19,7 +18,7 @@ abbrev μ-loop : tie.MeasureT-loop
 μ-loop b₀ rows contract terms i₀ due₀ changed₀ b i due changed = rows - i
 
 -- the row of this turn is one of the ledger's
-inside : (c : tie.In-loop Inv-loop μ-loop) → c .before .loop .i < length (ledgerOf document01 packedLayout (c .before .before .before .args .b .now) .rows)
+inside : (c : tie.In-loop Inv-loop μ-loop) → c .before .loop .i < length (facts (c .before .before .before .args .b .now) .rows)
 inside c = omega (arith, c .before .before .before .pre .count)
 
 -- what the turn leaves
@@ -44,7 +43,7 @@ rerate-row-requires c κs =
     let a = start .args in
     let h = inside at-turn in
     let p = at-loop .loop .inv .1 in
-    (p .long, (omega (arith, rows-most (a .b .now) (start .pre .formed)), next-slot (a .b .now) (start .pre .formed) (a .contract) (a .terms) (at-loop .loop .i) h (at-loop .loop .b) (at-loop .loop .due) (at-loop .loop .changed) p))
+    (p .long, (omega (arith, rows-most present (a .b .now) (start .pre .formed)), next-slot (a .b .now) (start .pre .formed) (a .contract) (a .terms) (at-loop .loop .i) h (at-loop .loop .b) (at-loop .loop .due) (at-loop .loop .changed) p))
 
 add-due : tie.Need-add-due Inv-loop μ-loop
 add-due c =

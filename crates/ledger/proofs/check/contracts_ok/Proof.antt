@@ -9,12 +9,15 @@ use borrow.Author.Count.{below-more}
 use lib.ListN.{take, drop}
 use Rattle.basics.proofs.Tests.{not-yes, not-no}
 use Rattle.records.specs.Slots.{slotOk}
-use Rattle.model.specs.Document01.{document01}
 use Rattle.layout.specs.Layout.{territoryIn}
-use Rattle.layout.specs.PackedLedger.{contractKind, rangesOf, packedLayout}
+use Rattle.layout.specs.PackedLedger.{contractKind, rangesOf}
 use Rattle.layout.specs.Offsets.{firstContract, contractLength, contractCount}
-use Rattle.codec.specs.Slots.{slotNumbers}
-use Rattle.ledger.proofs.Access.{contracts-pass, contracts-fail}
+use Rattle.records.specs.OneSlot.{slotNumbers, slotAt}
+use Rattle.records.proofs.OneSlot.{part-lent}
+use Rattle.layout.proofs.Present.{present}
+use Rattle.layout.proofs.Access.{contracts-pass, contracts-fail}
+use Rattle.layout.specs.Present.{rules, layout}
+use Rattle.layout.proofs.Lawful.{offsets}
 use borrow.Author.Needs.{needs}
 use Rattle.ledger.proofs.check.contracts_ok.Statement.{statement}
 use Rattle.ledger.proofs.check.contracts_ok.Tie as tie
@@ -25,7 +28,7 @@ tested territory b c = slotOk contractKind (rangesOf territory) (slotNumbers con
 
 abbrev Inv-loop : tie.InvT-loop
 Inv-loop b territory c₀ c =
-    (c ≤ contractCount) × ((territory ≡ territoryIn document01 packedLayout b) × ((i : ℕ) → i < c → tested territory b i ≡ true))
+    (c ≤ contractCount) × ((territory ≡ territoryIn rules layout b) × ((i : ℕ) → i < c → tested territory b i ≡ true))
 
 abbrev μ-loop : tie.MeasureT-loop
 μ-loop b territory c₀ c = contractCount - c
@@ -36,16 +39,16 @@ loop-holds c = (omega arith, (c .territory .ensures, λ i h. absurd (not-suc-le-
 -- what the call finds of the slot at hand
 found : (c : tie.After-slot-ok Inv-loop μ-loop) → c .slot-ok .result ≡ tested (c .before .before .before .before .territory .result) (c .before .before .before .before .before .before .args .b .now) (c .before .before .before .loop .c)
 found c =
-    let at = firstContract + c .before .before .before .loop .c * contractLength in
-    let lent : at + contractLength - at ≡ contractLength = omega arith in
     c .slot-ok .ensures
-    ∙ ap (λ (n : ℕ). slotOk contractKind (rangesOf (c .before .before .before .before .territory .result)) (slotNumbers contractKind (take n (drop at (c .before .before .before .before .before .before .args .b .now))))) lent
+    ∙ ap (λ (s : List ℕ). slotOk contractKind (rangesOf (c .before .before .before .before .territory .result)) (slotNumbers contractKind s))
+    (part-lent (firstContract + c .before .before .before .loop .c * contractLength) contractLength (c .before .before .before .before .before .before .args .b .now))
 
 returns : tie.Need-returns Inv-loop μ-loop
+unfolding slotAt offsets
 returns c =
     let at-loop = c .before .before .before .before in
     let start = at-loop .before .before .before in
-    sym (contracts-fail (start .args .b .now) (start .pre) _ (at-loop .loop .c) (c .before .before .before .loop-test .taken)
+    sym (contracts-fail present (start .args .b .now) (start .pre) (at-loop .loop .c) (c .before .before .before .loop-test .taken)
     (subst (λ (t : ℕ). tested t (start .args .b .now) (at-loop .loop .c) ≡ false) (at-loop .loop .inv .1 .0) (sym (found (c .before)) ∙ not-yes _ (c .if1 .taken))))
 
 loop-again : tie.Need-loop-again Inv-loop μ-loop
@@ -54,11 +57,12 @@ loop-again c =
     (omega arith, (inv .1 .0, below-more _ _ (inv .1 .1) (sym (found (c .before)) ∙ not-no _ (c .if1 .left))))
 
 returns-2 : tie.Need-returns-2 Inv-loop μ-loop
+unfolding slotAt offsets
 returns-2 c =
     let at-loop = c .before in
     let start = at-loop .before .before .before in
     let inv = at-loop .loop .inv in
-    sym (contracts-pass (start .args .b .now) (start .pre) _ (λ i h. subst (λ (t : ℕ). tested t (start .args .b .now) i ≡ true) (inv .1 .0) (inv .1 .1 i (omega arith))))
+    sym (contracts-pass present (start .args .b .now) (start .pre) (λ i h. subst (λ (t : ℕ). tested t (start .args .b .now) i ≡ true) (inv .1 .0) (inv .1 .1 i (omega arith))))
 
 pub contracts-ok-spec : {M : Type 1} → statement M
 contracts-ok-spec =

@@ -4,17 +4,16 @@ use mathlib.Core.Bool.{true, false}
 use Prim.Native.Nat.{ℕ}
 use lib.Dec.{leb}
 use borrow.Author.Tests.{le-leb, lt-leb, ne-eqb}
-use Rattle.model.specs.Document01.{document01}
 use Rattle.layout.specs.Layout.{claimsIn}
-use Rattle.layout.specs.PackedLedger.{packedLayout}
-use Rattle.ledger.specs.Check.{headerOk}
+use Rattle.layout.specs.Check.{headerOk}
+use Rattle.layout.specs.Present.{rules, layout}
 use borrow.Author.Needs.{needs}
 use Rattle.ledger.proofs.check.header_ok.Statement.{statement}
 use Rattle.ledger.proofs.check.header_ok.Tie as tie
 
 -- the claims of the ledger, and their test where they are too many and where they are not
 abbrev made : tie.After-claims → ℕ
-made c = claimsIn document01 packedLayout (c .before .before .args .b .now)
+made c = claimsIn rules layout (c .before .before .args .b .now)
 
 many : (c : tie.Then1) → leb (made (c .before)) 1000 ≡ false
 many c = lt-leb _ _ (rw (c .before .claims .ensures) at (c .if1 .taken))

@@ -1,24 +1,24 @@
 -- `contract_at` unpacks the contract's slot.
-use mathlib.Core.Path.{_≡_, ap, _∙_}
-use Prim.Native.Nat.{ℕ, _+_, _-_, _*_}
-use native.Mathlib.Omega.{arith}
-use lib.ListN.{take, drop}
+use mathlib.Core.Path.{ap, _∙_}
+use Prim.Native.Nat.{_+_, _*_}
 use Rattle.layout.specs.PackedLedger.{contractKind}
 use Rattle.layout.specs.Offsets.{firstContract, contractLength}
-use Rattle.codec.specs.Slots.{recordIn}
-use Rattle.ledger.proofs.Access.{contract-read}
+use Rattle.records.specs.OneSlot.{recordIn}
+use Rattle.records.proofs.OneSlot.{part-lent}
+use Rattle.layout.proofs.Present.{present}
+use Rattle.layout.proofs.Access.{contract-read}
+use Rattle.layout.proofs.Lawful.{offsets}
 use borrow.Author.Needs.{needs}
 use Rattle.ledger.proofs.contracts.contract_at.Statement.{statement}
 use Rattle.ledger.proofs.contracts.contract_at.Tie as tie
 
 returns : tie.Need-returns
+unfolding offsets
 returns c =
     let start = c .before .before .before in
-    let at = firstContract + start .args .c * contractLength in
-    let lent : at + contractLength - at ≡ contractLength = omega arith in
     c .unpack-contract .ensures
-    ∙ ap (λ (n : ℕ). recordIn contractKind (take n (drop at (start .args .b .now)))) lent
-    ∙ contract-read (start .args .b .now) (start .args .c) (start .pre .0) (start .pre .1 .0) (start .pre .1 .1)
+    ∙ ap (recordIn contractKind) (part-lent (firstContract + start .args .c * contractLength) contractLength (start .args .b .now))
+    ∙ contract-read present (start .args .b .now) (start .pre .0) (start .args .c) (start .pre .1 .0) (start .pre .1 .1)
 
 pub contract-at-spec : {M : Type 1} → statement M
 contract-at-spec =

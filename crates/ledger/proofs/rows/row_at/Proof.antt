@@ -1,24 +1,21 @@
 -- `row_at` unpacks the slot.
-use mathlib.Core.Path.{_≡_, ap, _∙_}
-use Prim.Native.Nat.{ℕ, _+_, _-_, _*_}
-use native.Mathlib.Omega.{arith}
-use lib.ListN.{take, drop}
+use mathlib.Core.Path.{ap, _∙_}
+use Prim.Native.Nat.{_+_, _*_}
 use Rattle.layout.specs.PackedLedger.{rowKind}
 use Rattle.layout.specs.Offsets.{firstRow, rowLength}
-use Rattle.codec.specs.Slots.{recordIn}
-use Rattle.ledger.specs.Check.{rowSlotAt}
-use Rattle.ledger.specs.Rows.{rowAt}
+use Rattle.records.specs.OneSlot.{recordIn, slotAt}
+use Rattle.records.proofs.OneSlot.{part-lent}
+use Rattle.layout.specs.Check.{rowAt}
+use Rattle.layout.proofs.Lawful.{offsets}
 use borrow.Author.Needs.{needs}
 use Rattle.ledger.proofs.rows.row_at.Statement.{statement}
 use Rattle.ledger.proofs.rows.row_at.Tie as tie
 
 returns : tie.Need-returns
-unfolding rowAt recordIn rowSlotAt
+unfolding rowAt recordIn slotAt offsets
 returns c =
     let start = c .before .before .before in
-    let at = firstRow + start .args .i * rowLength in
-    let lent : at + rowLength - at ≡ rowLength = omega arith in
-    c .unpack-row .ensures ∙ ap (λ (n : ℕ). recordIn rowKind (take n (drop at (start .args .b .now)))) lent
+    c .unpack-row .ensures ∙ ap (recordIn rowKind) (part-lent (firstRow + start .args .i * rowLength) rowLength (start .args .b .now))
 
 pub row-at-spec : {M : Type 1} → statement M
 row-at-spec =

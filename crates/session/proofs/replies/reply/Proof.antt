@@ -1,40 +1,47 @@
--- `reply` replies to start, open and cert; any other command is of a later group.
-use mathlib.Core.List.{[], _∷_}
+-- `reply` replies to each command: a call of a history by what it answers and leaves.
 use mathlib.Core.Path.{refl}
-use native.Mathlib.Omega.{arith}
 use Rattle.session.specs.Replies.{outcome}
 use borrow.Author.Needs.{needs}
-use Rattle.session.proofs.CommandGroups.{past-group}
-use Rattle.session.proofs.LedgerReplies.{line-said, ledger-left}
+use Rattle.calls.proofs.AnswersFit.{start-fits, same-fits}
+use Rattle.session.proofs.LedgerReplies.{line-said, ledger-left, book-left}
 use Rattle.session.proofs.replies.reply.Statement.{statement}
 use Rattle.session.proofs.replies.reply.Tie as tie
 
-reply-on-bills-requires : tie.Need-reply-on-bills-requires
-reply-on-bills-requires c κs =
-    let m = c .before .before in
-    let s = m .before .before .before in
-    (s .pre, past-group 0 (2 ∷ 3 ∷ 5 ∷ 6 ∷ 7 ∷ 8 ∷ 9 ∷ 10 ∷ 11 ∷ 12 ∷ []) refl (s .args .command) (omega arith) (m .match .keys4))
+tell-requires : tie.Need-tell-requires
+tell-requires c κs = same-fits (c .before .before .start .ensures .0) (start-fits _ _)
+
+tell-requires-2 : tie.Need-tell-requires-2
+tell-requires-2 c κs = c .before .before .perform .ensures .fits
 
 returns : tie.Need-returns
 unfolding outcome
 returns c =
     let d = c .before .before .before in
-    let k = d .before .before .before in
-    rw (k .command .given .1) (line-said (c .line-of .ensures) (d .start .ensures .0), ledger-left (d .start .ensures .1))
+    rw (d .before .before .before .command .given .1) (line-said (c .tell .ensures) (d .start .ensures .0), ledger-left (d .start .ensures .1))
 
 returns-2 : tie.Need-returns-2
 unfolding outcome
 returns-2 c =
     let d = c .before .before .before in
-    let k = d .before .before .before in
-    rw (k .command2 .given .1) (line-said (c .line-of2 .ensures) (d .open-contract .ensures .0), ledger-left (d .open-contract .ensures .1))
+    rw (d .before .before .before .before .command2 .given .1) (line-said (c .tell2 .ensures) (d .perform .ensures .answered), ledger-left (d .perform .ensures .left))
 
 returns-3 : tie.Need-returns-3
 unfolding outcome
-returns-3 c =
-    let d = c .before .before .before in
-    let k = d .before .before .before in
-    rw (k .command3 .given .1) (line-said (c .line-of3 .ensures) (d .cert .ensures .0), ledger-left (d .cert .ensures .1))
+returns-3 c = rw (c .before .before .before .command3 .given .1, ← c .before .day .ensures) (c .tell-day .ensures, refl)
+
+returns-4 : tie.Need-returns-4
+unfolding outcome
+returns-4 c = rw (c .before .before .before .command4 .given .1, ← c .before .date .ensures) (c .tell-date .ensures, refl)
+
+returns-5 : tie.Need-returns-5
+unfolding outcome
+returns-5 c =
+    let d = c .before .before in
+    rw (d .before .before .before .command5 .given .1) (d .set-price .ensures .0, book-left (d .set-price .ensures .1))
+
+returns-6 : tie.Need-returns-6
+unfolding outcome
+returns-6 c = rw (c .before .enum-told .given .1) (c .told-number .ensures, refl)
 
 pub reply-spec : {M : Type 1} → statement M
 reply-spec =
@@ -42,20 +49,27 @@ reply-spec =
     (tie.spec
     (λ c. search needs)
     (λ c κs. search needs)
+    tell-requires
+    (λ c. search needs)
     (λ c κs. search needs)
+    tell-requires-2
     (λ c. search needs)
     (λ c κs. search needs)
     (λ c κs. search needs)
     (λ c. search needs)
     (λ c κs. search needs)
     (λ c κs. search needs)
-    reply-on-bills-requires
+    (λ c. search needs)
+    (λ c κs. search needs)
+    (λ c. search needs)
+    (λ c κs. search needs)
     (λ c. search needs)
     returns
     (λ c. search needs)
+    (λ c. search needs)
     returns-2
-    (λ c. search needs)
     returns-3
+    returns-4
     (λ c. search needs)
-    (λ c. search needs)
-    (λ c. search needs))
+    returns-5
+    returns-6)

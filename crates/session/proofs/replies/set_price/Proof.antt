@@ -8,16 +8,17 @@ use Rattle.session.proofs.replies.set_price.Tie as tie
 
 returns : tie.Need-returns
 unfolding priceLine bookWith
-returns c = simp (lt-ltb _ _ (c .if1 .taken)) (refl, refl)
+returns c = simp (lt-ltb _ _ (c .before .if1 .taken)) (c .told-number .ensures, refl)
 
 returns-2 : tie.Need-returns-2
 unfolding priceLine bookWith
-returns-2 c = simp (le-ltb _ _ (c .before .if1 .left), lt-ltb _ _ (c .if2 .taken)) (refl, refl)
+returns-2 c = simp (le-ltb _ _ (c .before .before .if1 .left), lt-ltb _ _ (c .before .if2 .taken)) (c .told-number2 .ensures, refl)
 
 returns-3 : tie.Need-returns-3
 unfolding priceLine bookWith
-returns-3 c = simp (le-ltb _ _ (c .before .if1 .left), le-ltb _ _ (c .if2 .left)) (refl, refl)
+returns-3 c = simp (le-ltb _ _ (c .before .before .if1 .left), le-ltb _ _ (c .before .if2 .left)) (c .told-number3 .ensures, refl)
 
 pub set-price-spec : {M : Type 1} → statement M
 set-price-spec =
-    tie.close (tie.spec returns returns-2 (λ c. search needs) (λ c. search needs) (λ c. search needs) returns-3)
+    tie.close
+    (tie.spec (λ c κs. search needs) returns (λ c κs. search needs) returns-2 (λ c. search needs) (λ c. search needs) (λ c κs. search needs) (λ c. search needs) returns-3)

@@ -7,7 +7,7 @@ use Rattle.text.proofs.writing.write_line.Tie as tie
 write-text-requires : tie.Need-write-text-requires
 write-text-requires c κs =
     let w = c .before .before .before .before in
-    room-after 1 (w .write-words .ensures) (w .write-words .kept .0) (w .before .before .before .pre)
+    room-after 1 (w .write-words .ensures) (w .write-words .kept .0) (w .before .before .before .pre .1)
 
 returns : tie.Need-returns
 returns c =

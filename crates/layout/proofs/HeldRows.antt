@@ -1,0 +1,58 @@
+-- The rows of a well-formed ledger, read off their slots. Assumes nothing.
+use mathlib.Core.Path.{_≡_, sym, ap, _∙_}
+use mathlib.Core.Bool.{Bool, true, false, cond}
+use mathlib.Core.List.{List}
+use mathlib.Core.Option.{Option, none, some}
+use Prim.Native.Nat.{ℕ, _≤_, _<_}
+use native.Mathlib.Omega.{arith}
+use lib.Dec.{eqb}
+use lib.ListN.{length, drop, getD}
+use Rattle.records.specs.Slots.{slotIn}
+use Rattle.records.specs.Places.{places}
+use Rattle.records.proofs.Slots.{length-arrayIn}
+use Rattle.records.proofs.OneSlot.{slot-holds}
+use Rattle.records.proofs.Scan.{recordOf}
+use Rattle.records.proofs.Places.{length-held, place-held, places-held}
+use Rattle.model.specs.declared.Row.{Row}
+use Rattle.model.specs.Rules.{Rules}
+use Rattle.layout.specs.Layout.{Layout, rowCount, rowsFrom, ledgerSize, rowSlots, comesBefore, wellFormed, ledgerOf}
+use Rattle.layout.specs.Check.{rowSlotAt, rowAt}
+use Rattle.layout.proofs.LayoutLaws.{Tested, tested}
+use Rattle.layout.proofs.Lawful.{Lawful}
+use Rattle.layout.proofs.Access.{row-whole, rows-inside}
+
+module _ {R : Rules} {L : Layout} (laws : Lawful R L) (b : List ℕ) (f : wellFormed R L b ≡ true) where
+  abbrev rows : List Row
+  rows = ledgerOf R L b .rows
+
+  tests : Tested R L b
+  tests = tested R L b f
+
+  pub formed-length : length b ≡ ledgerSize R L
+  formed-length = tests .long
+
+  slot-count : length (rowSlots R L b) ≡ rowCount
+  unfolding rowSlots
+  slot-count = length-arrayIn (L .row) rowCount (drop (rowsFrom R L) b)
+
+  pub rows-most : length rows ≤ rowCount
+  unfolding ledgerOf
+  rows-most = omega (arith, length-held (rowSlots R L b), slot-count)
+
+  slot-held : (i : ℕ) → i < rowCount → getD (rowSlots R L b) i none ≡ slotIn (L .row) (rowSlotAt R L b i)
+  unfolding rowSlots
+  slot-held i h = slot-holds (L .row) (row-whole laws) rowCount (rowsFrom R L) b (rows-inside laws b formed-length) i h
+
+  pub row-held : (i : ℕ) (d : Row) → i < length rows → rowAt R L b i ≡ getD rows i d
+  unfolding ledgerOf slotIn rowAt
+  row-held i d h =
+      let m : i < rowCount = omega (arith, rows-most) in
+      let e : places rowCount rows ≡ rowSlots R L b =
+      ap (λ (n : ℕ). places n rows) (sym slot-count) ∙ places-held comesBefore (rowSlots R L b) (tests .order) in
+      let s : slotIn (L .row) (rowSlotAt R L b i) ≡ some (getD rows i d) =
+      sym (slot-held i m) ∙ ap (λ (os : List (Option Row)). getD os i none) (sym e) ∙ place-held rowCount rows d i h in
+      go (eqb (getD (rowSlotAt R L b i) 0 0) 0) s
+    where
+      go : (z : Bool) → cond z none (some (recordOf (L .row) (rowSlotAt R L b i))) ≡ some (getD rows i d) → recordOf (L .row) (rowSlotAt R L b i) ≡ getD rows i d
+      go true s = let n : _≡_ {A = ℕ} 0 1 = cc in let y : ⊥ = omega arith in absurd y
+      go false s = cc

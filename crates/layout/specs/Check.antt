@@ -1,0 +1,69 @@
+-- What a well-formed check finds, over any rules and layout. `checkedOf` is the answer; the rest says what its parts find. Assumes nothing.
+use mathlib.Core.Path.{_≡_}
+use mathlib.Core.Bool.{Bool, true, not, cond, _&&_, _||_}
+use mathlib.Core.List.{List, map}
+use Prim.Native.Nat.{ℕ, _+_, _*_}
+use lib.Dec.{leb, eqb}
+use lib.ListN.{length, drop, getD}
+use Rattle.basics.specs.Tests.{every}
+use Rattle.basics.specs.Lists.{total}
+use Rattle.records.specs.Slots.{slotOk, slots, recordFields}
+use Rattle.records.specs.OneSlot.{slotAt}
+use Rattle.records.specs.Places.{held, inOrder}
+use Rattle.records.specs.Pairs.{everyPair}
+use Rattle.model.specs.declared.Row.{Row}
+use Rattle.model.specs.Contracts.{Contracts}
+use Rattle.model.specs.Rules.{Rules}
+use Rattle.model.specs.Ledger.{due}
+use Rattle.layout.specs.Layout.{Layout, rowCount, contractsFrom, rowsFrom, claimsIn, penceIn, contractsIn, rowSlots, contractTest, rowTest, comesBefore, wellFormed, ledgerOf}
+use Rattle.layout.specs.declared.Checked.{Checked}
+use Rattle.layout.specs.declared.Checked.the-variants.{Malformed, WellFormed}
+use Rattle.layout.specs.declared.RowCheck.{RowCheck}
+use Rattle.layout.specs.declared.RowCheck.the-variants.{Free, Bad, Good}
+
+-- contract and first day of a row as one number, and the first such number after its last day
+abbrev pub firstKey : Row → ℕ
+firstKey x = x .bill .contract * 1024 + x .bill .first
+
+abbrev pub nextKey : Row → ℕ
+nextKey x = x .bill .contract * 1024 + x .bill .last + 1
+
+module _ (R : Rules) (L : Layout) where
+  -- of a well-formed ledger the number of its rows and the sum of their amounts, and of any other bytes nothing
+  unfoldable pub checkedOf : List ℕ → Checked
+  checkedOf b = cond (wellFormed R L b) (WellFormed (length (ledgerOf R L b .rows)) (due (ledgerOf R L b))) Malformed
+
+  -- the tests of the header
+  unfoldable pub headerOk : List ℕ → Bool
+  headerOk b = leb (claimsIn R L b) 1000 && (not (eqb (claimsIn R L b) 0) || eqb (penceIn R L b) 0)
+
+  -- the tests of all contracts
+  abbrev pub contractsOk : List ℕ → Bool
+  contractsOk b = every (map (slotOk (L .contract) (contractTest R L b)) (slots (L .contract) (R .contractLimit) (drop (contractsFrom R L) b)))
+
+  -- the numbers of row slot i, and its row
+  abbrev pub rowSlotAt : List ℕ → ℕ → List ℕ
+  rowSlotAt b i = slotAt (L .row) (rowsFrom R L) b i
+
+  unfoldable pub rowAt : List ℕ → ℕ → Row
+  rowAt b i = L .row .of (recordFields (L .row) (rowSlotAt b i))
+
+  -- one slot: free; or it is not as it must be, or its row begins before `least`; or what it leaves to the next
+  unfoldable pub rowCheckOf : Contracts → (least : ℕ) → List ℕ → RowCheck
+  rowCheckOf cs least v =
+      let x = L .row .of (recordFields (L .row) v) in
+      cond (eqb (getD v 0 0) 0) Free (cond (slotOk (L .row) (rowTest R L cs) v && leb least (firstKey x)) (Good (nextKey x) (x .amount)) Bad)
+
+  -- all rows: their slots and their order, over all pairs
+  unfoldable pub rowsCheckedOf : List ℕ → Checked
+  rowsCheckedOf b =
+      cond
+      (every (map (slotOk (L .row) (rowTest R L (contractsIn R L b))) (slots (L .row) rowCount (drop (rowsFrom R L) b)))
+      && everyPair (inOrder comesBefore) (rowSlots R L b))
+      (WellFormed (length (held (rowSlots R L b))) (total (λ x. x .amount) (held (rowSlots R L b))))
+      Malformed
+
+  -- a well-formed ledger, and the number of its rows
+  pub record Searched (b : List ℕ) (rows : ℕ) : Type 0 where
+    pub formed : wellFormed R L b ≡ true
+    pub count : rows ≡ length (ledgerOf R L b .rows)
