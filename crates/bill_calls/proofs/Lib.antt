@@ -1,3 +1,3 @@
--- What an accepted bill, rebill or cancellation has, answers and leaves, and what any of the three does.
-pub mod AcceptedRows
-pub mod CheckedCalls
+-- What the proofs of this crate share.
+pub mod RowChanges
+pub mod Bills

@@ -1,2 +1,2 @@
--- The row that a request makes.
-pub mod RatedRows
+-- A bill's row among the held rows.
+pub mod Rows

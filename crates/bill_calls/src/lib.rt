@@ -1,53 +1,73 @@
-// The calls bill, rebill and cancel on the packed ledger.
-pub mod accepted;
+// The calls bill, rebill and cancel on a well-formed ledger.
+mod rows;
 
-use bill_refusals::refusals;
-use layout::Checked;
-use ledger::check::check;
+use bill_refusals::Placed;
+use bill_refusals::Requested;
+use bill_refusals::new_place;
+use bill_refusals::place_again;
+use bill_refusals::requested_bill;
+use ledger::contracts::refused_contract;
+use ledger::rows::RowTest;
+use ledger::rows::first_row;
 use model::Answer;
 use model::Request;
-ghost use mathlib.Core.Path.{_≡_};
-ghost use Rattle.model.specs.Calls.{callBill, callRebill, callCancel};
-ghost use Rattle.layout.specs.Present.{machine};
+use rows::add_row;
+use rows::remove_row;
+use rows::replace_row;
+ghost use Rattle.model.specs.declared.Call.{Call};
+ghost use Rattle.model.specs.Calls.{_with_};
+ghost use Rattle.layout.specs.Present.{Searched};
+ghost use Rattle.ledger.specs.Answered.{Answered, AnsweredWithAnyBook};
 
 // bill: adds a row; answers R, rate and amount.
-pub fn bill(ledger: &mut [u8], book: &[u32], request: Request) -> Answer
-    ensures { λ r. ⌜ (r ≡ machine .answer (now (ledger .entry)) (callBill request (now (book .entry)))) × (now (ledger .exit) ≡ machine .step (now (ledger .entry)) (callBill request (now (book .entry)))) ⌝ }
+pub fn bill(ledger: &mut [u8], rows: usize, book: &[u32], request: Request) -> Answer
+    requires { ⌜ Searched (now ledger) rows ⌝ }
+    ensures { λ r. ⌜ Answered (now (ledger .entry)) (Call.Bill request with now (book .entry)) r (now (ledger .exit)) ⌝ }
 {
-    let Checked::WellFormed { rows, due: _ } = check(ledger) else {
-        return Answer::Refused(2);
-    };
-    let refused = refusals::refused_bill(ledger, rows as usize, book, request);
-    if refused != 0 {
-        return Answer::Refused(refused);
+    let asked = requested_bill(ledger, book, request);
+    match asked {
+        Requested::Refused(number) => Answer::Refused(number),
+        Requested::Bill { contract, bill } => {
+            let placed = new_place(ledger, rows, contract, bill);
+            match placed {
+                Placed::Refused(number) => Answer::Refused(number),
+                Placed::At(place) => add_row(ledger, rows, place, contract, bill),
+            }
+        }
     }
-    accepted::accept_bill(ledger, rows as usize, book, request)
 }
 
-// rebill: puts a row in place of the one with that contract and first day; answers R, rate and the new amount minus the old.
-pub fn rebill(ledger: &mut [u8], book: &[u32], request: Request) -> Answer
-    ensures { λ r. ⌜ (r ≡ machine .answer (now (ledger .entry)) (callRebill request (now (book .entry)))) × (now (ledger .exit) ≡ machine .step (now (ledger .entry)) (callRebill request (now (book .entry)))) ⌝ }
+// rebill: replaces the row with that contract and first day; answers R, rate, and the new amount minus the old.
+pub fn rebill(ledger: &mut [u8], rows: usize, book: &[u32], request: Request) -> Answer
+    requires { ⌜ Searched (now ledger) rows ⌝ }
+    ensures { λ r. ⌜ Answered (now (ledger .entry)) (Call.Rebill request with now (book .entry)) r (now (ledger .exit)) ⌝ }
 {
-    let Checked::WellFormed { rows, due: _ } = check(ledger) else {
-        return Answer::Refused(2);
-    };
-    let refused = refusals::refused_rebill(ledger, rows as usize, book, request);
-    if refused != 0 {
-        return Answer::Refused(refused);
+    let asked = requested_bill(ledger, book, request);
+    match asked {
+        Requested::Refused(number) => Answer::Refused(number),
+        Requested::Bill { contract, bill } => {
+            let placed = place_again(ledger, rows, contract, bill);
+            match placed {
+                Placed::Refused(number) => Answer::Refused(number),
+                Placed::At(place) => replace_row(ledger, rows, place, contract, bill),
+            }
+        }
     }
-    accepted::accept_rebill(ledger, rows as usize, book, request)
 }
 
 // cancel: removes the row with that contract and first day; answers minus its amount.
-pub fn cancel(ledger: &mut [u8], contract: u32, first: u32) -> Answer
-    ensures { λ r. ⌜ (r ≡ machine .answer (now (ledger .entry)) (callCancel contract first)) × (now (ledger .exit) ≡ machine .step (now (ledger .entry)) (callCancel contract first)) ⌝ }
+pub fn cancel(ledger: &mut [u8], rows: usize, contract: u32, first: u32) -> Answer
+    requires { ⌜ Searched (now ledger) rows ⌝ }
+    ensures { λ r. ⌜ AnsweredWithAnyBook (now (ledger .entry)) (Call.Cancel contract first) r (now (ledger .exit)) ⌝ }
 {
-    let Checked::WellFormed { rows, due: _ } = check(ledger) else {
-        return Answer::Refused(2);
-    };
-    let refused = refusals::refused_cancel(ledger, rows as usize, contract, first);
+    let refused = refused_contract(ledger, contract);
     if refused != 0 {
         return Answer::Refused(refused);
     }
-    accepted::accept_cancel(ledger, rows as usize, contract, first)
+    let row = RowTest::Named { contract, first };
+    let place = first_row(ledger, rows, row);
+    if rows <= place {
+        return Answer::Refused(9);
+    }
+    remove_row(ledger, rows, place, contract, first)
 }

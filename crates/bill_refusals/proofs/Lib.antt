@@ -1,4 +1,2 @@
--- Laws of the price book and of the refusals in checking order.
-pub mod Books
-pub mod Prices
-pub mod Tests
+-- What the proofs of this crate and its callers share.
+pub mod Requests

@@ -1,17 +1,16 @@
--- The laws of the table of dates: its length, the successor rule, the landmarks, the order of its packed dates.
+-- The laws of the table of dates: its length, the successor rule, the landmarks, the dates from their packed forms.
 use Prim.Native.Nat.{ℕ, suc, _≤_, _<_, _+_, _/_, _%_}
 use mathlib.Core.Path.{_≡_, refl, sym}
 use mathlib.Core.Bool.{Bool, true}
 use mathlib.Core.List.{[], _∷_, map}
 use native.Mathlib.Omega.{arith}
-use lib.Dec.{ltb}
 use lib.ListN.{length, List·getD-map, List·getD-eq-default}
-use borrow.Author.Tests.{ltb-true}
+use Rattle.limits.specs.Limits.{dayCount}
 use Rattle.calendar.specs.declared.CalendarDate.{CalendarDate}
 use Rattle.calendar.specs.Calendar.{dateFrom, sameDate, nextDate}
-use Rattle.calendar.specs.Days.{dates, dateOf, dayCount, noDate, packed}
+use Rattle.calendar.specs.Days.{dates, dateOf, noDate, packed}
 use Rattle.calendar.proofs.SameDate.{same-equal}
-use Rattle.calendar.proofs.Tables.{adjacent, adjacent-at, grows}
+use Rattle.calendar.proofs.Tables.{adjacent, adjacent-at}
 
 -- the table has 852 entries
 pub day-count : length dates ≡ dayCount
@@ -52,21 +51,6 @@ each-follows = refl
 pub successor : (day : ℕ) → suc day < dayCount → dateOf (suc day) ≡ nextDate (dateOf day)
 unfolding follows
 successor day inside = same-equal _ _ (from-day-to-day follows each-follows day inside)
-
--- whether a packed date is below another
-packedBelow : CalendarDate → CalendarDate → Bool
-packedBelow earlier later = ltb (packed earlier) (packed later)
-
-each-packed-below : adjacent packedBelow dates ≡ true
-unfolding dates packedBelow
-each-packed-below = refl
-
--- a later day has a larger packed date, so that no two days have the same date
-pub increasing : (i j : ℕ) → i < j → j < dayCount → packed (dateOf i) < packed (dateOf j)
-unfolding packedBelow
-increasing =
-    grows (λ day. packed (dateOf day)) dayCount
-    (λ day inside. ltb-true _ _ (from-day-to-day packedBelow each-packed-below day inside))
 
 -- the date that a packed date stands for
 unfoldable pub unpacked : ℕ → CalendarDate

@@ -1,11 +1,9 @@
 -- A rule of a table at each of its places, from one test that antt computes over all entries.
 use Prim.Native.Nat.{ℕ, zero, suc, _<_}
-use mathlib.Core.Path.{_≡_, sym, subst}
+use mathlib.Core.Path.{_≡_}
 use mathlib.Core.Bool.{Bool, true, _&&_, and-eq-true-iff}
 use mathlib.Core.List.{List, [], _∷_}
-use mathlib.Core.Logic.{⊎-elim}
-use native.Mathlib.Nat.{le-of-suc-le-suc, not-suc-le-zero, eq-or-lt-of-le, lt-trans}
-use native.Mathlib.Omega.{arith}
+use native.Mathlib.Nat.{le-of-suc-le-suc, not-suc-le-zero}
 use lib.ListN.{length, getD}
 
 module _ {A : Type 0} where
@@ -41,14 +39,3 @@ module _ {A : Type 0} (none : A) where
   adjacent-at test (x ∷ (y ∷ ys)) passed zero inside = and-eq-true-iff (test x y) (adjacent test (y ∷ ys)) .0 passed .0
   adjacent-at test (x ∷ (y ∷ ys)) passed (suc i) inside =
       adjacent-at test (y ∷ ys) (and-eq-true-iff (test x y) (adjacent test (y ∷ ys)) .0 passed .1) i (le-of-suc-le-suc inside)
-
--- a number that grows from each place to the next is larger at every later place
-pub grows :
-    (size : ℕ → ℕ) (count : ℕ)
-    → ((i : ℕ) → suc i < count → size i < size (suc i))
-    → (i j : ℕ) → i < j → j < count → size i < size j
-grows size count next i zero later inside = absurd (not-suc-le-zero later)
-grows size count next i (suc j) later inside =
-    ⊎-elim (λ equal. subst (λ (k : ℕ). size k < size (suc j)) (sym equal) (next j inside))
-    (λ less. lt-trans (grows size count next i j less (omega arith)) (next j inside))
-    (eq-or-lt-of-le (le-of-suc-le-suc later))

@@ -4,11 +4,12 @@ use mathlib.Core.Bool.{cond}
 use mathlib.Core.List.{List, [], _∷_}
 use lib.Dec.{ltb}
 use lib.IntN.{ℤ, pos}
+use Rattle.limits.specs.Limits.{dayCount}
 use Rattle.calendar.specs.declared.CalendarDate.{CalendarDate}
 use Rattle.calendar.specs.declared.DayAnswer.{DayAnswer}
 use Rattle.calendar.specs.declared.DateAnswer.{DateAnswer}
 use Rattle.calendar.specs.Calendar.{dateFrom, sameDate}
-use Rattle.calendar.specs.Days.{dates, dayCount, dateOf}
+use Rattle.calendar.specs.Days.{dates, dateOf}
 
 -- ---- the answers
 
@@ -29,24 +30,24 @@ answerOfNumber day = cond (ltb day dayCount) (DayAnswer.Day day) (DayAnswer.Refu
 unfoldable pub dayAnswer : ℕ → ℕ → ℕ → DayAnswer
 dayAnswer year month day = answerOfNumber (position (dateFrom year month day) dates)
 
--- date (day number): the year, month and day that the table gives; turned down above 851
+-- date (day number): the year, month and day that the table gives; turned down above the last day
 unfoldable pub dateAnswer : ℕ → DateAnswer
 dateAnswer day = cond (ltb day dayCount) (DateAnswer.Date (dateOf day)) (DateAnswer.Refused wrongDay)
 
--- ---- the paper's number of an answer, 0 where the call is accepted, and its values, zeros after them to three: a refusal gives zeros
+-- ---- the paper's number of an answer, 0 where the call is accepted, and its values: a refusal has none
 
 abbrev pub dayRefusalNumber : DayAnswer → ℕ
 dayRefusalNumber (DayAnswer.Day day) = 0
 dayRefusalNumber (DayAnswer.Refused n) = n
 
-abbrev pub dayAnswerValues : DayAnswer → List ℤ
-dayAnswerValues (DayAnswer.Day day) = pos day ∷ pos 0 ∷ pos 0 ∷ []
-dayAnswerValues (DayAnswer.Refused n) = pos 0 ∷ pos 0 ∷ pos 0 ∷ []
+abbrev pub valuesOfDay : DayAnswer → List ℤ
+valuesOfDay (DayAnswer.Day day) = pos day ∷ []
+valuesOfDay (DayAnswer.Refused n) = []
 
 abbrev pub dateRefusalNumber : DateAnswer → ℕ
 dateRefusalNumber (DateAnswer.Date date) = 0
 dateRefusalNumber (DateAnswer.Refused n) = n
 
-abbrev pub dateAnswerValues : DateAnswer → List ℤ
-dateAnswerValues (DateAnswer.Date date) = pos (date .year) ∷ pos (date .month) ∷ pos (date .day) ∷ []
-dateAnswerValues (DateAnswer.Refused n) = pos 0 ∷ pos 0 ∷ pos 0 ∷ []
+abbrev pub valuesOfDate : DateAnswer → List ℤ
+valuesOfDate (DateAnswer.Date date) = pos (date .year) ∷ pos (date .month) ∷ pos (date .day) ∷ []
+valuesOfDate (DateAnswer.Refused n) = []

@@ -5,7 +5,7 @@ use lib.ListN.{getD}
 use Rattle.calendar.specs.declared.CalendarDate.{CalendarDate}
 use Rattle.calendar.specs.Calendar.{dateFrom, daysInMonth}
 
--- the first dates of a month, as many as asked
+-- the first dates of a month, as many as given
 abbrev pub firstDates : ℕ → ℕ → ℕ → List CalendarDate
 firstDates year month zero = []
 firstDates year month (suc count) = firstDates year month count ++ (dateFrom year month (suc count) ∷ [])
@@ -14,7 +14,7 @@ firstDates year month (suc count) = firstDates year month count ++ (dateFrom yea
 abbrev pub datesOfMonth : ℕ → ℕ → List CalendarDate
 datesOfMonth year month = firstDates year month (daysInMonth year month)
 
--- the dates of the first months of a year, as many as asked
+-- the dates of the first months of a year, as many as given
 abbrev pub datesOfMonths : ℕ → ℕ → List CalendarDate
 datesOfMonths year zero = []
 datesOfMonths year (suc count) = datesOfMonths year count ++ datesOfMonth year (suc count)
@@ -22,10 +22,6 @@ datesOfMonths year (suc count) = datesOfMonths year count ++ datesOfMonth year (
 -- the table, which gives year, month and day for each day number: the dates from 1 December 2021 to 31 March 2024
 unfoldable pub dates : List CalendarDate
 dates = datesOfMonth 2021 12 ++ datesOfMonths 2022 12 ++ datesOfMonths 2023 12 ++ datesOfMonths 2024 3
-
--- the number of entries of the table
-abbrev pub dayCount : ℕ
-dayCount = 852
 
 -- what stands past the end of the table: no date of the calendar
 abbrev pub noDate : CalendarDate

@@ -1,7 +1,8 @@
 // The table of dates: for each day number, 0 for 1 December 2021 to 851 for 31 March 2024, its packed date.
 ghost use mathlib.Core.Path.{_≡_};
 ghost use Prim.Native.Nat.{_<_};
-ghost use Rattle.calendar.specs.Days.{dayCount, dateOf, packed};
+ghost use Rattle.limits.specs.Limits.{dayCount};
+ghost use Rattle.calendar.specs.Days.{dateOf, packed};
 
 // The packed date of a day number.
 pub fn packed_date(day: u32) -> u16

@@ -1,14 +1,13 @@
 // The calendar of the scheme: day numbers and dates, each from the other, and the scheme month of a day.
 mod dates;
 
+use limits::DAY_COUNT;
 ghost use mathlib.Core.Path.{_≡_};
 ghost use Prim.Native.Nat.{_<_};
+ghost use Rattle.limits.specs.Limits.{dayCount};
 ghost use Rattle.calendar.specs.Calendar.{sameDate};
-ghost use Rattle.calendar.specs.Days.{dayCount, dateOf, schemeMonth};
+ghost use Rattle.calendar.specs.Days.{dateOf, schemeMonth};
 ghost use Rattle.calendar.specs.Answers.{dayAnswer, dateAnswer};
-
-// The day numbers are those below 852.
-const DAY_COUNT: u32 = 852;
 
 // The number that turns down a wrong day.
 const WRONG_DAY: u32 = 7;

@@ -1,34 +1,28 @@
 -- Every answer of the calls has numbers that fit 64 bits with a sign. Assumes nothing.
 use Rattle.model.specs.declared.Request.{Request}
-use mathlib.Core.Path.{_≡_, refl, sym, ap, _∙_, subst}
-use mathlib.Core.Bool.{Bool, true, false, not, cond}
-use mathlib.Core.List.{List, [], _∷_}
-use Prim.Native.Nat.{ℕ, zero, suc, _≤_}
+use mathlib.Core.Path.{_≡_, refl, sym, subst}
+use mathlib.Core.Bool.{Bool, true, false, cond}
+use mathlib.Core.List.{List}
+use Prim.Native.Nat.{ℕ, zero, suc}
 use native.Mathlib.Omega.{arith}
-use lib.Dec.{eqb}
-use lib.IntN.{ℤ}
-use types.Run.{OneOf}
-use denote.Enum.Declared.{tagOf}
-use Rattle.basics.proofs.Keys.{each-key}
-use Rattle.basics.proofs.Tests.{le-yes}
 use Rattle.rates.proofs.WithinCaps.{rate-low, amount-low}
 use Rattle.model.specs.declared.Answer.{Answer}
-use Rattle.model.specs.declared.Answer.the-variants.{Refused, Done, Billed, Rebilled, Certified, Cancelled, Claimed, Reported, Totalled}
-use Rattle.model.proofs.Answer.{the-type}
+use Rattle.model.specs.declared.Answer.the-variants.{Refused}
 use Rattle.model.specs.Contracts.{contractAt}
-use Rattle.model.specs.declared.Call.{Call as Made}
-use Rattle.model.specs.Calls.{Call, refusalNumber, answerValues, requestedBill, asked}
-use Rattle.model.specs.Rules.{refusal}
-use Rattle.model.specs.Ledger.{Ledger, view, ofContract, priced, unlessRefused, accept, outcome, answer}
+use Rattle.model.specs.declared.Call.{Call}
+use Rattle.model.specs.Calls.{CallWithBook, requestedBill, _with_}
+use Rattle.model.specs.Rules.{refusal, unlessRefused}
+use Rattle.model.specs.Ledger.{Ledger, view, ofContract, priced, turnedDown, accept, outcome, answer}
 use Rattle.model.specs.WellFormed.{WellFormed}
 use Rattle.model.proofs.RulesLaws.{Taken}
-use Rattle.model.proofs.Document01.{bill-test, document01-laws}
+use Rattle.model.proofs.PresentRules.{bill-ranges}
+use Rattle.model.proofs.RowBounds.{amounts-low, due-low}
 use Rattle.layout.specs.Layout.{wellFormed}
-use Rattle.layout.proofs.PackedLedger.{packed-format}
 use Rattle.layout.specs.Present.{rules, layout, facts, machine}
+use Rattle.layout.proofs.Present.{present, facts-kept}
 use Rattle.contract_calls.specs.Start.{startRefusal, doneUnlessRefused, startAnswer}
-use Rattle.claim_calls.proofs.HeldSums.{kwh-low, amounts-low, due-low}
-use Rattle.calls.specs.Told.{FitsSigned, AnswerFits, Performed}
+use Rattle.claim_calls.proofs.ReportSums.{kwh-low}
+use Rattle.calls.specs.Replies.{FitsSigned, AnswerFits}
 
 -- ---- a call that nothing turns down
 
@@ -41,33 +35,33 @@ module _ (l : Ledger) (f : WellFormed rules l) where
   taken-fits q book t =
       let k = contractAt (l .contracts) (q .contract) in
       let b = requestedBill (l .contracts) q book in
-      let tests = bill-test k b (t .ranges (f .contracts (q .contract) (t .isOpened))) in
-      let supply = le-yes (b .supply) 999999 (tests 2) in
-      (omega (arith, rate-low k b supply), omega (arith, amount-low k b (le-yes (b .kwh) 100000000 (tests 1)) supply))
+      let tests = bill-ranges k b (t .ranges (f .contracts (q .contract) (t .isOpened))) in
+      let supply = tests .supply in
+      (omega (arith, rate-low k b supply), omega (arith, amount-low k b (tests .kwh) supply))
 
-  accepted-fits : (c : Call) → refusal rules (view l) c ≡ 0 → AnswerFits (accept rules l c .answers)
+  accepted-fits : (c : CallWithBook) → refusal rules (view l) c ≡ 0 → AnswerFits (accept rules l c .answers)
   unfolding accept
-  accepted-fits (asked (Made.Open c fuel kind fix entry) book) e = tt
-  accepted-fits (asked (Made.Bill q) book) e = taken-fits q book (document01-laws .bills (view l) q book e)
-  accepted-fits (asked (Made.Rebill q) book) e = taken-fits q book (document01-laws .rebills (view l) q book e) .0
-  accepted-fits (asked (Made.Cert c class effective) book) e = tt
-  accepted-fits (asked (Made.Cancel c first) book) e = tt
-  accepted-fits (asked Made.Claim book) e = tt
-  accepted-fits (asked (Made.Report c) book) e = (omega (arith, kwh-low l f (ofContract c)), omega (arith, amounts-low l f (ofContract c)))
-  accepted-fits (asked Made.Total book) e = omega (arith, due-low l f)
+  accepted-fits (Call.Open c fuel kind fix entry with book) e = tt
+  accepted-fits (Call.Bill q with book) e = taken-fits q book (present .rules .bills (view l) q book e)
+  accepted-fits (Call.Rebill q with book) e = taken-fits q book (present .rules .rebills (view l) q book e) .0
+  accepted-fits (Call.Cert c class effective with book) e = tt
+  accepted-fits (Call.Cancel c first with book) e = tt
+  accepted-fits (Call.Claim with book) e = tt
+  accepted-fits (Call.Report c with book) e = (omega (arith, kwh-low l f (ofContract c)), omega (arith, amounts-low f (present .rules) (ofContract c)))
+  accepted-fits (Call.Total with book) e = omega (arith, due-low f (present .rules))
 
   -- ---- any call
 
-  any-fits : (c : Call) → AnswerFits (answer rules l c)
+  any-fits : (c : CallWithBook) → AnswerFits (answer rules l c)
   unfolding answer outcome
   any-fits c = go (refusal rules (view l) c) (accepted-fits c)
     where
-      go : (n : ℕ) → (n ≡ 0 → AnswerFits (accept rules l c .answers)) → AnswerFits (unlessRefused n l (accept rules l c) .answers)
+      go : (n : ℕ) → (n ≡ 0 → AnswerFits (accept rules l c .answers)) → AnswerFits (unlessRefused n (accept rules l c) (turnedDown l n) .answers)
       go zero h = h refl
       go (suc n) h = tt
 
-pub machine-fits : (b : List ℕ) (c : Call) → AnswerFits (machine .answer b c)
-machine-fits b c = go (wellFormed rules layout b) (λ e. any-fits (facts b) (packed-format .unpacked b e) c)
+pub machine-fits : (b : List ℕ) (c : CallWithBook) → AnswerFits (machine .answer b c)
+machine-fits b c = go (wellFormed rules layout b) (λ e. any-fits (facts b) (facts-kept b e) c)
   where
     go : (t : Bool) → (t ≡ true → AnswerFits (answer rules (facts b) c)) → AnswerFits (cond t (answer rules (facts b) c) (Refused 2))
     go true h = h refl
@@ -85,6 +79,3 @@ start-fits b territory = go (startRefusal b territory)
 
 pub same-fits : {a b : Answer} → a ≡ b → AnswerFits b → AnswerFits a
 same-fits e h = subst AnswerFits (sym e) h
-
-pub performed : {b after : List ℕ} {c : Call} {a : Answer} → (a ≡ machine .answer b c) × (after ≡ machine .step b c) → Performed b c a after
-performed {b} {after} {c} {a} h = record { answered = h .0; left = h .1; fits = same-fits (h .0) (machine-fits b c) }

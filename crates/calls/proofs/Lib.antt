@@ -1,4 +1,3 @@
--- The calls that change no byte, and that every answer fits.
-pub mod UnchangedLedger
+-- That every answer fits, and what a call comes to.
 pub mod AnswersFit
-pub mod Bookless
+pub mod Performed

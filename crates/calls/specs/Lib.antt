@@ -1,2 +1,2 @@
--- What is told of an answer, and the answers whose numbers fit.
-pub mod Told
+-- The reply of an answer, and the answers whose numbers fit.
+pub mod Replies

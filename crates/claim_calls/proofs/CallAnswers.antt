@@ -1,87 +1,90 @@
--- What claim, report and total answer and leave, by what the check and the header give. Assumes nothing.
+-- What claim, report and total answer and leave, by what the ledger's sum and header are. Assumes nothing.
 use mathlib.Core.Path.{_≡_, refl, sym, _∙_}
-use mathlib.Core.Bool.{true, false}
 use mathlib.Core.List.{List, [], _∷_}
 use Prim.Native.Nat.{ℕ, _+_, _*_, _/_, _%_, _≤_, _<_, _^_}
 use native.Mathlib.Numerals.{add-one}
 use native.Mathlib.Omega.{arith}
-use borrow.Author.Tests.{le-ltb}
-use lib.IntN.{subℕ}
-use lib.ListN.{length}
-use Rattle.basics.proofs.Tests.{yes-le, no-le, yes-lt}
+use lib.IntN.{ℤ, subℕ}
+use Rattle.limits.specs.Limits.{rowCount, mostClaims, ticksPerPenny}
+use Rattle.basics.proofs.Tests.{yes-le, no-le}
+use Rattle.fields.specs.Fields.{Fit}
 use Rattle.records.specs.Pack.{pack}
 use Rattle.records.specs.Edits.{replaceAt}
+use Rattle.rates.proofs.WithinCaps.{highestAmount}
+use Rattle.model.specs.declared.Answer.{Answer}
 use Rattle.model.specs.declared.Answer.the-variants.{Refused, Claimed, Totalled}
-use Rattle.model.specs.Contracts.{isOpen}
-use Rattle.model.specs.Calls.{callClaim, callReport, callTotal}
+use Rattle.model.specs.declared.Call.{Call}
+use Rattle.model.specs.Calls.{_with_, firstOf}
 use Rattle.model.specs.Rules.{refusal}
-use Rattle.model.specs.Document01.{tests}
-use Rattle.model.specs.Ledger.{Ledger, view, accept}
-use Rattle.layout.specs.Layout.{territoryIn, claimsIn, penceIn, wellFormed, ledgerOf}
+use Rattle.model.specs.PresentRules.{tests, openTests}
+use Rattle.model.specs.Ledger.{view, accept}
+use Rattle.model.proofs.RowBounds.{due-low}
+use Rattle.layout.specs.Layout.{territoryIn, claimsIn, penceIn, ledgerOf}
+use Rattle.layout.specs.Present.{rules, layout, facts, Searched}
+use Rattle.layout.proofs.Present.{present, facts-kept, repacked}
 use Rattle.edits.proofs.PackedChanges.{written-header}
-use Rattle.layout.proofs.Present.{formed-length, Answers, Sound, present}
-use Rattle.layout.proofs.Machine.{machine-refused, machine-accepted}
-use Rattle.layout.specs.Present.{rules, layout, facts, contracts, machine}
-use Rattle.claim_calls.proofs.HeldSums.{due-low}
+use Rattle.ledger.specs.Answered.{viewOf, Summed, AnsweredWithAnyBook}
+use Rattle.ledger.proofs.Refusals.{fits, refused-answered, accepted-answered}
 
-module _ (b : List ℕ) where
-  abbrev l : Ledger
-  l = facts b
-
-  -- ---- what a well-formed ledger has
-
-  module _ {rows due : ℕ} (s : Sound b rows due) where
-    pub header-there : 8 ≤ length b
-    header-there = omega (arith, formed-length b (s .formed))
-
-    pub due-fits : due < 2 ^ 60
-    due-fits = omega (arith, s .total, due-low l (s .facts))
-
-    pub territory-fits : (territory : ℕ) → territory ≡ territoryIn rules layout b → territory ≤ 1
-    unfolding ledgerOf
-    territory-fits territory e = omega (arith, s .facts .territory)
-
-    pub pence-fits : (pence : ℕ) → pence ≡ penceIn rules layout b → pence < 2 ^ 47
-    unfolding ledgerOf
-    pence-fits pence e = omega (arith, s .facts .pence)
+module _ (b : List ℕ) (rows due : ℕ) (s : Summed b rows due) where
+  highest-due : due ≤ rowCount * highestAmount
+  highest-due = omega (arith, s .total, due-low (facts-kept b (s .searched .formed)) (present .rules))
 
   -- ---- claim
 
-  pub claim-refused : wellFormed rules layout b ≡ true → (claims : ℕ) → claims ≡ claimsIn rules layout b → 1000 ≤ claims → Answers b callClaim (Refused 13) b
+  pub claim-refused : (claims : ℕ) → claims ≡ claimsIn rules layout b → mostClaims ≤ claims → AnsweredWithAnyBook b Call.Claim (Refused 13) b
   unfolding refusal tests view ledgerOf
-  claim-refused f claims e h = machine-refused present b callClaim f 13 (omega arith) (rw (yes-le 1000 (claimsIn rules layout b) (omega arith)))
+  claim-refused claims e h book = refused-answered b (Call.Claim with book) 13 (s .searched .formed) (fits _ 13 0 (yes-le mostClaims (claimsIn rules layout b) (omega arith))) (λ z. omega arith)
 
-  -- with the header that is then written
-  pub claim-accepted : {rows due : ℕ} → Sound b rows due → (territory claims before : ℕ)
-      → territory ≡ territoryIn rules layout b → claims ≡ claimsIn rules layout b → before ≡ penceIn rules layout b → claims < 1000
-      → (after : List ℕ) → after ≡ replaceAt 0 (pack (layout .header) (territory ∷ (claims + 1) ∷ (due / 10000) ∷ [])) b
-      → Answers b callClaim (Claimed (subℕ (due / 10000) before) (due % 10000)) after
+  -- the header that is written, and the pence claimed by then and before
+  pub header-fits : (territory claims : ℕ) → territory ≡ territoryIn rules layout b → claims < mostClaims → Fit (layout .header) (territory ∷ (claims + 1) ∷ (due / ticksPerPenny) ∷ [])
+  unfolding ledgerOf
+  header-fits territory claims e h = (omega (arith, facts-kept b (s .searched .formed) .territory), (omega arith, (omega (arith, highest-due), tt)))
+
+  pub pence-due-low : due / ticksPerPenny < 2 ^ 62
+  pence-due-low = omega (arith, highest-due)
+
+  pub pence-low : (before : ℕ) → before ≡ penceIn rules layout b → before < 2 ^ 62
+  unfolding ledgerOf
+  pence-low before e = omega (arith, facts-kept b (s .searched .formed) .pence)
+
+  pub claim-answered : (territory claims before : ℕ) (change : ℤ) (after : List ℕ)
+      → territory ≡ territoryIn rules layout b → claims ≡ claimsIn rules layout b → before ≡ penceIn rules layout b → claims < mostClaims
+      → change ≡ subℕ (due / ticksPerPenny) before → after ≡ replaceAt 0 (pack (layout .header) (territory ∷ (claims + 1) ∷ (due / ticksPerPenny) ∷ [])) b
+      → AnsweredWithAnyBook b Call.Claim (Claimed change (due % ticksPerPenny)) after
   unfolding refusal tests view accept ledgerOf
-  claim-accepted s territory claims before t e p h after w =
-      let m = machine-accepted present b callClaim (s .formed) (rw (no-le 1000 (claimsIn rules layout b) (omega arith))) in
-      record {
-        answered = m .answered ∙ rw (sym (s .total), sym p);
-        left = m .left ∙ sym (written-header l b after (s .packed) _ _ (w ∙ rw (t, e, s .total, add-one (claimsIn rules layout b))));
-      }
-
-  -- ---- report
-
-  module _ (c : ℕ) (f : wellFormed rules layout b ≡ true) where
-    pub report-bad-number : 63 < c → Answers b (callReport c) (Refused 4) b
-    unfolding refusal tests
-    report-bad-number h = machine-refused present b (callReport c) f 4 (omega arith) (rw (yes-lt 63 c h))
-
-    pub report-not-open : c ≤ 63 → isOpen (contracts b) c ≡ false → Answers b (callReport c) (Refused 5) b
-    unfolding refusal tests view ledgerOf
-    report-not-open h e = machine-refused present b (callReport c) f 5 (omega arith) (rw (le-ltb 63 c h, e))
-
-    pub report-accepted : c ≤ 63 → isOpen (contracts b) c ≡ true → machine .answer b (callReport c) ≡ accept rules l (callReport c) .answers
-    unfolding refusal tests view ledgerOf
-    report-accepted h e = machine-accepted present b (callReport c) f (rw (le-ltb 63 c h, e)) .answered
+  claim-answered territory claims before change after t e p low net put book =
+      accepted-answered b (Call.Claim with book) (s .searched .formed)
+      (rw (no-le mostClaims (claimsIn rules layout b) (omega arith)))
+      (rw (net, ← s .total, p))
+      (written-header (facts b) b after (sym (repacked b (s .searched .formed))) _ _ (put ∙ rw (t, e, s .total, add-one (claimsIn rules layout b))))
 
   -- ---- total
 
-  pub total-accepted : {rows due : ℕ} → Sound b rows due → (pence : ℕ) → pence ≡ penceIn rules layout b
-      → machine .answer b callTotal ≡ Totalled due (subℕ due (10000 * pence))
+  pub sum-low : due < 2 ^ 62
+  sum-low = omega (arith, highest-due)
+
+  module _ (pence : ℕ) (e : pence ≡ penceIn rules layout b) where
+    pub claimed-low : ticksPerPenny * pence < 2 ^ 62
+    unfolding ledgerOf
+    claimed-low = omega (arith, facts-kept b (s .searched .formed) .pence)
+
+    pub claimed-fits : ticksPerPenny * pence < 2 ^ 64
+    claimed-fits = omega (arith, claimed-low)
+
+  pub total-answered : (pence : ℕ) (unclaimed : ℤ) → pence ≡ penceIn rules layout b → unclaimed ≡ subℕ due (ticksPerPenny * pence)
+      → AnsweredWithAnyBook b Call.Total (Totalled due unclaimed) b
   unfolding refusal tests accept ledgerOf
-  total-accepted s pence p = machine-accepted present b callTotal (s .formed) refl .answered ∙ rw (sym (s .total), sym p)
+  total-answered pence unclaimed p net book =
+      accepted-answered b (Call.Total with book) (s .searched .formed) refl (rw (net, p, s .total)) (sym (repacked b (s .searched .formed)))
+
+-- ---- report
+
+module _ (b : List ℕ) (rows c n : ℕ) (s : Searched b rows) (e : n ≡ firstOf (openTests (viewOf b) c)) where
+  pub report-refused : (n ≡ 0 → ⊥) → AnsweredWithAnyBook b (Call.Report c) (Refused n) b
+  unfolding refusal tests
+  report-refused some book = refused-answered b (Call.Report c with book) n (s .formed) e some
+
+  pub report-accepted : n ≡ 0 → (said : Answer) → said ≡ accept rules (facts b) (Call.Report c with []) .answers → AnsweredWithAnyBook b (Call.Report c) said b
+  unfolding refusal tests accept
+  report-accepted none said f book = accepted-answered b (Call.Report c with book) (s .formed) (sym none ∙ e) f (sym (repacked b (s .formed)))

@@ -1,4 +1,3 @@
--- Laws of signed differences, of sums over rows, and of the calls claim, report and total.
-pub mod HeldSums
+-- The sums of a report, and what claim, report and total answer.
 pub mod ReportSums
 pub mod CallAnswers

@@ -1,46 +1,45 @@
-// The calls claim, report and total on a lent ledger, for any bytes of any length.
+// The calls claim, report and total.
 use codec::header::write_header;
 use layout::Checked;
 use ledger::check::check;
-use ledger::contracts::is_open;
+use ledger::contracts::refused_contract;
 use ledger::rows::row_at;
+use limits::MOST_CLAIMS;
+use limits::TICKS_PER_PENNY;
 use model::Answer;
 use signed::difference;
 ghost use mathlib.Core.Path.{_≡_};
-ghost use Rattle.model.specs.Calls.{callClaim, callReport, callTotal};
+ghost use mathlib.Core.List.{[]};
+ghost use Rattle.model.specs.declared.Call.{Call};
+ghost use Rattle.model.specs.Calls.{_with_};
 ghost use Rattle.model.specs.Ledger.{accept};
-ghost use Rattle.layout.specs.Present.{rules, facts, machine, Searched};
+ghost use Rattle.layout.specs.Present.{rules, facts, Searched};
+ghost use Rattle.ledger.specs.Answered.{Summed, AnsweredWithAnyBook};
 
-// How many ticks a penny has.
-const TICKS_PER_PENNY: u64 = 10000;
-
-// Answers floor(due / 10,000) minus the pence claimed before, and due modulo 10,000. The header then holds one claim more and the pence
-// claimed.
-pub fn claim(ledger: &mut [u8]) -> Answer
-    ensures { λ r. ⌜ (r ≡ machine .answer (now (ledger .entry)) callClaim) × (now (ledger .exit) ≡ machine .step (now (ledger .entry)) callClaim) ⌝ }
+// claim: answers floor(due / 10,000) minus the pence claimed before, and due modulo 10,000. The header then holds one claim more and the
+// pence claimed.
+pub fn claim(ledger: &mut [u8], rows: usize, due: u64) -> Answer
+    requires { ⌜ Summed (now ledger) rows due ⌝ }
+    ensures { λ r. ⌜ AnsweredWithAnyBook (now (ledger .entry)) Call.Claim r (now (ledger .exit)) ⌝ }
 {
-    let Checked::WellFormed { rows: _, due } = check(ledger) else {
-        return Answer::Refused(2);
-    };
     let claims = codec::header::claims(ledger);
-    if 1000 <= claims {
+    if MOST_CLAIMS <= claims {
         return Answer::Refused(13);
     }
     let territory = codec::header::territory(ledger);
     let before = codec::header::pence(ledger);
     let pence = due / TICKS_PER_PENNY;
-    let rest = (due % TICKS_PER_PENNY) as u32;
     write_header(ledger, territory, claims + 1, pence);
     Answer::Claimed {
         pence: difference(pence, before),
-        rest,
+        rest: (due % TICKS_PER_PENNY) as u32,
     }
 }
 
 // The answer of a report that nothing turns down: the sums over the held rows of the contract.
 fn accepted_report(ledger: &[u8], rows: usize, contract: u32) -> Answer
     requires { ⌜ Searched (now ledger) rows ⌝ }
-    ensures { λ r. ⌜ r ≡ accept rules (facts (now (ledger .entry))) (callReport contract) .answers ⌝ }
+    ensures { λ r. ⌜ r ≡ accept rules (facts (now (ledger .entry))) (Call.Report contract with []) .answers ⌝ }
 {
     let mut count: u32 = 0;
     let mut kwh: u64 = 0;
@@ -63,32 +62,48 @@ fn accepted_report(ledger: &[u8], rows: usize, contract: u32) -> Answer
     }
 }
 
-// Answers the rows, kWh and due of the contract. It changes no byte.
-pub fn report(ledger: &[u8], contract: u32) -> Answer
-    ensures { λ r. ⌜ r ≡ machine .answer (now (ledger .entry)) (callReport contract) ⌝ }
+// report: answers the rows, kWh and due of the contract.
+pub fn checked_report(ledger: &[u8], rows: usize, contract: u32) -> Answer
+    requires { ⌜ Searched (now ledger) rows ⌝ }
+    ensures { λ r. ⌜ AnsweredWithAnyBook (now (ledger .entry)) (Call.Report contract) r (now (ledger .entry)) ⌝ }
 {
-    let Checked::WellFormed { rows, due: _ } = check(ledger) else {
-        return Answer::Refused(2);
-    };
-    if 63 < contract {
-        return Answer::Refused(4);
+    let refused = refused_contract(ledger, contract);
+    if refused != 0 {
+        return Answer::Refused(refused);
     }
-    if !is_open(ledger, contract as usize) {
-        return Answer::Refused(5);
-    }
-    accepted_report(ledger, rows as usize, contract)
+    accepted_report(ledger, rows, contract)
 }
 
-// Answers due, and the unclaimed amount: due minus 10,000 times the pence claimed. It changes no byte.
-pub fn total(ledger: &[u8]) -> Answer
-    ensures { λ r. ⌜ r ≡ machine .answer (now (ledger .entry)) callTotal ⌝ }
+// total: answers due, and the unclaimed amount, which is due minus 10,000 times the pence claimed.
+pub fn checked_total(ledger: &[u8], rows: usize, due: u64) -> Answer
+    requires { ⌜ Summed (now ledger) rows due ⌝ }
+    ensures { λ r. ⌜ AnsweredWithAnyBook (now (ledger .entry)) Call.Total r (now (ledger .entry)) ⌝ }
 {
-    let Checked::WellFormed { rows: _, due } = check(ledger) else {
-        return Answer::Refused(2);
-    };
     let claimed = TICKS_PER_PENNY * codec::header::pence(ledger);
     Answer::Totalled {
         due,
         unclaimed: difference(due, claimed),
+    }
+}
+
+// report on any bytes, which stay as they are.
+pub fn report(ledger: &[u8], contract: u32) -> Answer
+    ensures { λ r. ⌜ AnsweredWithAnyBook (now (ledger .entry)) (Call.Report contract) r (now (ledger .entry)) ⌝ }
+{
+    let checked = check(ledger);
+    match checked {
+        Checked::Malformed => Answer::Refused(2),
+        Checked::WellFormed { rows, due: _ } => checked_report(ledger, rows as usize, contract),
+    }
+}
+
+// total on any bytes, which stay as they are.
+pub fn total(ledger: &[u8]) -> Answer
+    ensures { λ r. ⌜ AnsweredWithAnyBook (now (ledger .entry)) Call.Total r (now (ledger .entry)) ⌝ }
+{
+    let checked = check(ledger);
+    match checked {
+        Checked::Malformed => Answer::Refused(2),
+        Checked::WellFormed { rows, due } => checked_total(ledger, rows as usize, due),
     }
 }

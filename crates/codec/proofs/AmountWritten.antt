@@ -1,5 +1,5 @@
 -- A row's slot with its amount written: the slot of the row with that amount. Assumes nothing.
-use mathlib.Core.Path.{_≡_, refl, subst}
+use mathlib.Core.Path.{_≡_, refl, subst, _∙_}
 use mathlib.Core.List.{List}
 use mathlib.Core.Option.{some}
 use Prim.Native.Nat.{ℕ, _^_, _<_}
@@ -14,26 +14,26 @@ use Rattle.records.specs.OneSlot.{slotNumbers, recordIn, recordBytes, IsPacked}
 use Rattle.records.proofs.NumberSet.{number-set}
 use Rattle.model.specs.declared.Row.{Row}
 use Rattle.model.specs.Ledger.{withAmount}
-use Rattle.layout.specs.PackedLedger.{rowKind}
+use Rattle.layout.specs.PresentLayout.{rowRecord}
 
-module _ (s : List ℕ) (a : ℕ) (is : IsPacked rowKind s) (low : a < 2 ^ 50) where
+module _ (s : List ℕ) (a : ℕ) (low : a < 2 ^ 50) where
   abbrev x : Row
-  x = recordIn rowKind s
+  x = recordIn rowRecord s
 
-  -- the amount is the last of the slot's numbers
+  -- the amount is the last of the row's fields
   abbrev last : ℕ
-  last = length (rowKind .widths)
+  last = length (rowRecord .widths)
 
-  fits : Fit (whole rowKind) (slotOut rowKind (some x))
+  fits : Fit (whole rowRecord) (slotOut rowRecord (some x))
   unfolding slotOut recordIn slotNumbers unpack fields
-  fits = let f = fields-fit s 0 (whole rowKind) in omega arith
+  fits = let f = fields-fit s 0 (whole rowRecord) in omega arith
 
-  fits-then : Fit (whole rowKind) (slotOut rowKind (some (withAmount x a)))
+  fits-then : Fit (whole rowRecord) (slotOut rowRecord (some (withAmount x a)))
   unfolding slotOut recordIn slotNumbers unpack fields
-  fits-then = let f = fields-fit s 0 (whole rowKind) in omega arith
+  fits-then = let f = fields-fit s 0 (whole rowRecord) in omega arith
 
-  pub amount-written : setField s (sum (take last (whole rowKind))) (getD (whole rowKind) last 0) a ≡ recordBytes rowKind (withAmount x a)
+  pub amount-written : (t : List ℕ) → IsPacked rowRecord s → t ≡ setField s (sum (take last (whole rowRecord))) (getD (whole rowRecord) last 0) a → t ≡ recordBytes rowRecord (withAmount x a)
   unfolding slotOut size
-  amount-written =
-      subst (λ (t : List ℕ). setField t (sum (take last (whole rowKind))) (getD (whole rowKind) last 0) a ≡ recordBytes rowKind (withAmount x a)) is
-      (number-set rowKind refl x (withAmount x a) last a (omega arith) fits refl fits-then)
+  amount-written t is e =
+      e ∙ subst (λ (u : List ℕ). setField u (sum (take last (whole rowRecord))) (getD (whole rowRecord) last 0) a ≡ recordBytes rowRecord (withAmount x a)) is
+      (number-set rowRecord refl x (withAmount x a) last a (omega arith) fits refl fits-then)

@@ -1,22 +1,66 @@
 // A contract in its bytes.
-use crate::codes;
-use crate::numbers::get;
-use crate::numbers::put_all;
-use crate::ranges;
 use layout::CONTRACT_LENGTH;
 use rates::Contract;
+use records::numbers::get;
+use records::numbers::put_all;
+use rules::codes;
+use rules::ranges::contract_ranges;
 ghost use mathlib.Core.Path.{_≡_};
-ghost use lib.ListN.{length};
+ghost use mathlib.Core.Bool.{not};
+ghost use mathlib.Core.List.{_∷_, _++_};
+ghost use Prim.Native.Nat.{suc};
+ghost use lib.ListN.{length, drop};
 ghost use Rattle.fields.specs.Fields.{Fit};
-ghost use Rattle.records.specs.Slots.{slotOk};
-ghost use Rattle.layout.specs.PackedLedger.{contractKind, rangesOf};
+ghost use Rattle.records.specs.Slots.{slotOk, allZero, zerosFor, recordFields};
+ghost use Rattle.layout.specs.PresentLayout.{contractRecord};
 ghost use Rattle.layout.specs.Offsets.{contractLength};
 ghost use Rattle.records.specs.OneSlot.{slotNumbers, isTaken, recordIn, recordBytes};
+ghost use Rattle.model.specs.PresentRules.{contractRanges};
+
+// The widths of the fields and of the zeros after them, in bits.
+const FUEL_BITS: usize = 1;
+
+const KIND_BITS: usize = 2;
+
+const DAY_BITS: usize = 10;
+
+const CLASS_BITS: usize = 2;
+
+const ZERO_BITS: usize = 4;
+
+// The first bit of each field, after the bit that says whether the contract is open, and of the zeros.
+const FUEL_AT: usize = 1;
+
+const KIND_AT: usize = FUEL_AT + FUEL_BITS;
+
+const PRICE_FIX_AT: usize = KIND_AT + KIND_BITS;
+
+const ENTRY_AT: usize = PRICE_FIX_AT + DAY_BITS;
+
+const CLASS_AT: usize = ENTRY_AT + DAY_BITS;
+
+const EFFECTIVE_AT: usize = CLASS_AT + CLASS_BITS;
+
+const ZEROS_AT: usize = EFFECTIVE_AT + DAY_BITS;
+
+// How many numbers a slot has, and their widths.
+const NUMBERS: usize = 8;
+
+const WIDTHS: [usize; NUMBERS] = [
+    1,
+    FUEL_BITS,
+    KIND_BITS,
+    DAY_BITS,
+    DAY_BITS,
+    CLASS_BITS,
+    DAY_BITS,
+    ZERO_BITS,
+];
 
 // Whether a contract's slot is open.
 pub fn is_open(s: &[u8]) -> bool
     requires { ⌜ length (now s) ≡ contractLength ⌝ }
-    ensures { λ r. ⌜ r ≡ isTaken contractKind (now (s .entry)) ⌝ }
+    ensures { λ r. ⌜ r ≡ isTaken contractRecord (now (s .entry)) ⌝ }
 {
     get(s, 0, 1) != 0
 }
@@ -24,25 +68,30 @@ pub fn is_open(s: &[u8]) -> bool
 // The contract that a slot holds.
 pub fn unpack_contract(s: &[u8]) -> Contract
     requires { ⌜ length (now s) ≡ contractLength ⌝ }
-    ensures { λ r. ⌜ r ≡ recordIn contractKind (now (s .entry)) ⌝ }
+    ensures { λ r. ⌜ r ≡ recordIn contractRecord (now (s .entry)) ⌝ }
 {
     Contract {
-        fuel: codes::fuel_of(get(s, 1, 1)),
-        kind: codes::kind_of(get(s, 2, 2), get(s, 4, 10), get(s, 14, 10)),
-        certificate: codes::certificate_of(get(s, 24, 2), get(s, 26, 10)),
+        fuel: codes::fuel_of(get(s, FUEL_AT, FUEL_BITS)),
+        kind: codes::kind_of(
+            get(s, KIND_AT, KIND_BITS),
+            get(s, PRICE_FIX_AT, DAY_BITS),
+            get(s, ENTRY_AT, DAY_BITS),
+        ),
+        certificate: codes::certificate_of(
+            get(s, CLASS_AT, CLASS_BITS),
+            get(s, EFFECTIVE_AT, DAY_BITS),
+        ),
     }
 }
 
-// The slot that holds the contract.
-pub fn pack_contract(s: &mut [u8], contract: Contract)
-    requires { ⌜ (length (now s) ≡ contractLength) × Fit (contractKind .widths) (contractKind .values contract) ⌝ }
-    ensures { λ _. ⌜ now (s .exit) ≡ recordBytes contractKind contract ⌝ }
+// The numbers of the slot that holds the contract.
+fn slot_numbers(contract: Contract) -> [u64; NUMBERS]
+    ensures { λ r. ⌜ r ≡ 1 ∷ (contractRecord .values contract ++ zerosFor (contractRecord .zeros)) ⌝ }
 {
     let fuel = contract.fuel;
     let kind = contract.kind;
     let certificate = contract.certificate;
-    let widths = [1usize, 1, 2, 10, 10, 2, 10, 4];
-    let values = [
+    [
         1,
         codes::fuel_code(fuel) as u64,
         codes::kind_code(kind) as u64,
@@ -51,28 +100,61 @@ pub fn pack_contract(s: &mut [u8], contract: Contract)
         codes::class_code(certificate) as u64,
         codes::effective_day(certificate) as u64,
         0,
-    ];
+    ]
+}
+
+// The slot that holds the contract.
+pub fn pack_contract(s: &mut [u8], contract: Contract)
+    requires { ⌜ (length (now s) ≡ contractLength) × Fit (contractRecord .widths) (contractRecord .values contract) ⌝ }
+    ensures { λ _. ⌜ now (s .exit) ≡ recordBytes contractRecord contract ⌝ }
+{
+    let widths = WIDTHS;
+    let values = slot_numbers(contract);
     put_all(s, &widths, &values);
+}
+
+// A bit of the zeros is set.
+fn padding_set(s: &[u8]) -> bool
+    requires { ⌜ length (now s) ≡ contractLength ⌝ }
+    ensures { λ r. ⌜ r ≡ not (allZero (drop (suc (length (contractRecord .widths))) (slotNumbers contractRecord (now (s .entry))))) ⌝ }
+{
+    get(s, ZEROS_AT, ZERO_BITS) != 0
+}
+
+// The numbers of an open contract's slot keep their ranges.
+fn in_ranges(s: &[u8], territory: u32) -> bool
+    requires { ⌜ length (now s) ≡ contractLength ⌝ }
+    ensures { λ r. ⌜ r ≡ contractRanges territory (recordFields contractRecord (slotNumbers contractRecord (now (s .entry)))) ⌝ }
+{
+    contract_ranges(
+        territory,
+        get(s, FUEL_AT, FUEL_BITS),
+        get(s, KIND_AT, KIND_BITS),
+        get(s, PRICE_FIX_AT, DAY_BITS),
+        get(s, ENTRY_AT, DAY_BITS),
+        get(s, CLASS_AT, CLASS_BITS),
+        get(s, EFFECTIVE_AT, DAY_BITS),
+    )
+}
+
+// All of the slot is zero.
+fn all_zero(s: &[u8]) -> bool
+    requires { ⌜ length (now s) ≡ contractLength ⌝ }
+    ensures { λ r. ⌜ r ≡ allZero (slotNumbers contractRecord (now (s .entry))) ⌝ }
+{
+    records::is_zero(s, 0, CONTRACT_LENGTH)
 }
 
 // Whether a contract's slot is as it must be: zeros last, all zeros where it is not open, and its numbers in their ranges.
 pub fn slot_ok(s: &[u8], territory: u32) -> bool
     requires { ⌜ length (now s) ≡ contractLength ⌝ }
-    ensures { λ r. ⌜ r ≡ slotOk contractKind (rangesOf territory) (slotNumbers contractKind (now (s .entry))) ⌝ }
+    ensures { λ r. ⌜ r ≡ slotOk contractRecord (contractRanges territory) (slotNumbers contractRecord (now (s .entry))) ⌝ }
 {
-    if get(s, 36, 4) != 0 {
+    if padding_set(s) {
         return false;
     }
-    if get(s, 0, 1) == 0 {
-        return records::is_zero(s, 0, CONTRACT_LENGTH);
+    if is_open(s) {
+        return in_ranges(s, territory);
     }
-    ranges::contract_ranges(
-        territory,
-        get(s, 1, 1),
-        get(s, 2, 2),
-        get(s, 4, 10),
-        get(s, 14, 10),
-        get(s, 24, 2),
-        get(s, 26, 10),
-    )
+    all_zero(s)
 }

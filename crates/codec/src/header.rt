@@ -1,8 +1,8 @@
 // The header in the ledger's first bytes.
-use crate::numbers::get;
-use crate::numbers::put_all;
+use records::numbers::get;
+use records::numbers::put_all;
 ghost use mathlib.Core.Path.{_≡_};
-ghost use Prim.Native.Nat.{_≤_, _<_, _^_};
+ghost use Prim.Native.Nat.{_≤_};
 ghost use mathlib.Core.List.{[], _∷_};
 ghost use lib.ListN.{length};
 ghost use Rattle.fields.specs.Fields.{Fit};
@@ -12,25 +12,41 @@ ghost use Rattle.layout.specs.Layout.{territoryIn, claimsIn, penceIn};
 ghost use Rattle.layout.specs.Offsets.{firstContract};
 ghost use Rattle.layout.specs.Present.{rules, layout};
 
+// The widths of the fields, in bits.
+const TERRITORY_BITS: usize = 1;
+
+const CLAIMS_BITS: usize = 16;
+
+const PENCE_BITS: usize = 47;
+
+// The first bit of each field.
+const TERRITORY_AT: usize = 0;
+
+const CLAIMS_AT: usize = TERRITORY_AT + TERRITORY_BITS;
+
+const PENCE_AT: usize = CLAIMS_AT + CLAIMS_BITS;
+
+const WIDTHS: [usize; 3] = [TERRITORY_BITS, CLAIMS_BITS, PENCE_BITS];
+
 pub fn territory(b: &[u8]) -> u32
     requires { ⌜ firstContract ≤ length (now b) ⌝ }
     ensures { λ r. ⌜ r ≡ territoryIn rules layout (now (b .entry)) ⌝ }
 {
-    get(b, 0, 1)
+    get(b, TERRITORY_AT, TERRITORY_BITS)
 }
 
 pub fn claims(b: &[u8]) -> u32
     requires { ⌜ firstContract ≤ length (now b) ⌝ }
     ensures { λ r. ⌜ r ≡ claimsIn rules layout (now (b .entry)) ⌝ }
 {
-    get(b, 1, 16)
+    get(b, CLAIMS_AT, CLAIMS_BITS)
 }
 
 pub fn pence(b: &[u8]) -> u64
     requires { ⌜ firstContract ≤ length (now b) ⌝ }
     ensures { λ r. ⌜ r ≡ penceIn rules layout (now (b .entry)) ⌝ }
 {
-    fields::get(b, 17, 47)
+    fields::get(b, PENCE_AT, PENCE_BITS)
 }
 
 // Writes the header anew.
@@ -38,7 +54,7 @@ pub fn write_header(b: &mut [u8], territory: u32, claims: u32, pence: u64)
     requires { ⌜ (firstContract ≤ length (now b)) × Fit (layout .header) (territory ∷ claims ∷ pence ∷ []) ⌝ }
     ensures { λ _. ⌜ now (b .exit) ≡ replaceAt 0 (pack (layout .header) (territory ∷ claims ∷ pence ∷ [])) (now (b .entry)) ⌝ }
 {
-    let widths = [1usize, 16, 47];
+    let widths = WIDTHS;
     let values = [territory as u64, claims as u64, pence];
     put_all(b, &widths, &values);
 }

@@ -1,7 +1,4 @@
-// Contracts, rows and the header in their packed bytes, and the ranges that they keep.
-pub mod codes;
+// Contracts, rows and the header in their packed bytes.
 pub mod contracts;
 pub mod header;
-mod numbers;
-pub mod ranges;
 pub mod rows;

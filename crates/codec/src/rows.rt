@@ -1,18 +1,16 @@
 // A row in its bytes.
-use crate::numbers::get_window;
-use crate::numbers::put_all;
-use layout::ROW_LENGTH;
 use model::Row;
 use rates::Bill;
+use records::numbers::get_window;
+use records::numbers::put_all;
 ghost use mathlib.Core.Path.{_≡_};
 ghost use mathlib.Core.List.{_∷_, _++_};
-ghost use mathlib.Core.Bool.{true};
 ghost use Prim.Native.Nat.{_^_, _<_};
 ghost use lib.ListN.{length};
 ghost use Rattle.model.specs.Ledger.{withAmount};
 ghost use Rattle.fields.specs.Fields.{Fit};
-ghost use Rattle.records.specs.Slots.{blank};
-ghost use Rattle.layout.specs.PackedLedger.{rowKind};
+ghost use Rattle.records.specs.Slots.{zerosFor};
+ghost use Rattle.layout.specs.PresentLayout.{rowRecord};
 ghost use Rattle.layout.specs.Offsets.{rowLength};
 ghost use Rattle.records.specs.OneSlot.{isTaken, recordIn, recordBytes, IsPacked};
 
@@ -42,10 +40,11 @@ const SUPPLY_AT: usize = REFERENCE_AT + PRICE_BITS;
 
 const AMOUNT_AT: usize = SUPPLY_AT + PRICE_BITS;
 
-// The first bytes of the windows of eight bytes that hold both prices, and the amount; those before them are in the first eight bytes.
+// The first bytes of the windows of eight bytes that hold both prices, and that end with the amount's last byte; the fields before them
+// are in the first eight bytes.
 const PRICES_WINDOW: usize = REFERENCE_AT / 8;
 
-const AMOUNT_WINDOW: usize = ROW_LENGTH - 8;
+const AMOUNT_WINDOW: usize = (AMOUNT_AT + AMOUNT_BITS + 7) / 8 - 8;
 
 // How many numbers a slot has, and their widths.
 const NUMBERS: usize = 8;
@@ -64,7 +63,7 @@ const WIDTHS: [usize; NUMBERS] = [
 // Whether a row's slot is held.
 pub fn is_held(s: &[u8]) -> bool
     requires { ⌜ length (now s) ≡ rowLength ⌝ }
-    ensures { λ r. ⌜ r ≡ isTaken rowKind (now (s .entry)) ⌝ }
+    ensures { λ r. ⌜ r ≡ isTaken rowRecord (now (s .entry)) ⌝ }
 {
     get_window(s, 0, 0, 1) != 0
 }
@@ -72,7 +71,7 @@ pub fn is_held(s: &[u8]) -> bool
 // The row that a slot holds.
 pub fn unpack_row(s: &[u8]) -> Row
     requires { ⌜ length (now s) ≡ rowLength ⌝ }
-    ensures { λ r. ⌜ r ≡ recordIn rowKind (now (s .entry)) ⌝ }
+    ensures { λ r. ⌜ r ≡ recordIn rowRecord (now (s .entry)) ⌝ }
 {
     Row {
         bill: Bill {
@@ -89,7 +88,7 @@ pub fn unpack_row(s: &[u8]) -> Row
 
 // The numbers of the slot that holds the row.
 fn slot_numbers(row: Row) -> [u64; NUMBERS]
-    ensures { λ r. ⌜ r ≡ 1 ∷ (rowKind .values row ++ blank (rowKind .zeros)) ⌝ }
+    ensures { λ r. ⌜ r ≡ 1 ∷ (rowRecord .values row ++ zerosFor (rowRecord .zeros)) ⌝ }
 {
     let bill = row.bill;
     [
@@ -106,8 +105,8 @@ fn slot_numbers(row: Row) -> [u64; NUMBERS]
 
 // The slot that holds the row.
 pub fn pack_row(s: &mut [u8], row: Row)
-    requires { ⌜ (length (now s) ≡ rowLength) × Fit (rowKind .widths) (rowKind .values row) ⌝ }
-    ensures { λ _. ⌜ now (s .exit) ≡ recordBytes rowKind row ⌝ }
+    requires { ⌜ (length (now s) ≡ rowLength) × Fit (rowRecord .widths) (rowRecord .values row) ⌝ }
+    ensures { λ _. ⌜ now (s .exit) ≡ recordBytes rowRecord row ⌝ }
 {
     let widths = WIDTHS;
     let values = slot_numbers(row);
@@ -116,8 +115,8 @@ pub fn pack_row(s: &mut [u8], row: Row)
 
 // Writes the amount of the row that a slot holds.
 pub fn put_amount(s: &mut [u8], amount: u64)
-    requires { ⌜ (length (now s) ≡ rowLength) × (IsPacked rowKind (now s) × (amount < 2 ^ 50)) ⌝ }
-    ensures { λ _. ⌜ now (s .exit) ≡ recordBytes rowKind (withAmount (recordIn rowKind (now (s .entry))) amount) ⌝ }
+    requires { ⌜ (length (now s) ≡ rowLength) × (IsPacked rowRecord (now s) × (amount < 2 ^ 50)) ⌝ }
+    ensures { λ _. ⌜ now (s .exit) ≡ recordBytes rowRecord (withAmount (recordIn rowRecord (now (s .entry))) amount) ⌝ }
 {
     fields::put_window(s, AMOUNT_WINDOW, AMOUNT_AT, AMOUNT_BITS, amount);
 }

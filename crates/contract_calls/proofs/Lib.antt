@@ -1,7 +1,7 @@
 -- What the calls answer, and what the bytes that they write hold.
-pub mod Opening
+pub mod StartAnswers
 pub mod FirstMapped
-pub mod RowReading
+pub mod RowsInSlots
 pub mod RowRerating
 pub mod RowsRerating
-pub mod Certifying
+pub mod ContractAnswers

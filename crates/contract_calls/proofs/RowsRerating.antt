@@ -1,174 +1,136 @@
--- The rows of a ledger re-rated one after the other: what is left to do, with what the rows passed left, is what is to be done. Assumes nothing.
+-- The rows of a ledger re-rated one after the other. Assumes nothing.
 use mathlib.Core.Path.{_≡_, refl, sym, ap, ap₂, _∙_, subst}
-use mathlib.Core.Bool.{Bool, true, false, cond}
-use mathlib.Core.List.{List, [], map}
-use Prim.Native.Nat.{ℕ, _+_, _*_, _^_, _<_, _≤_}
+use mathlib.Core.Bool.{cond}
+use mathlib.Core.List.{List, [], _∷_}
+use Prim.Native.Nat.{ℕ, zero, suc, _+_, _*_, _^_, _<_, _≤_}
+use native.Mathlib.Nat.{not-suc-le-zero, le-of-suc-le-suc}
 use native.Mathlib.Omega.{arith}
 use lib.Dec.{eqb}
-use lib.ListN.{length, take, drop, getD, set}
-use lib.Seq.{set-getD}
-use Rattle.basics.specs.Lists.{All, total, count}
-use Rattle.basics.proofs.Tests.{either, le-yes, eq-yes, eq-no}
-use Rattle.basics.proofs.Lists.{all-map, total-most, total-map}
-use Rattle.fields.specs.Fields.{Fit}
+use lib.ListN.{length, take, drop, getD}
+use lib.Seq.{drop-drop}
+use Rattle.limits.specs.Limits.{rowCount}
+use Rattle.basics.specs.Lists.{All, total}
+use Rattle.basics.proofs.Tests.{either, eq-yes, eq-no}
+use Rattle.basics.proofs.Lists.{total-map}
 use Rattle.records.specs.Edits.{replaceAt}
-use Rattle.records.proofs.Lists.{all-true}
-use Rattle.rates.specs.declared.Contract.{Contract}
-use Rattle.rates.specs.Rates.{amount}
-use Rattle.model.specs.declared.Row.{Row}
-use Rattle.model.specs.Contracts.{Contracts, contractAt}
-use Rattle.model.specs.Ledger.{Ledger, due, withRows, rerated}
-use Rattle.model.specs.RowNumbers.{rowOfNumbers}
-use Rattle.model.specs.WellFormed.{RowOk}
-use Rattle.model.proofs.Document01.{bill-test}
-use Rattle.layout.specs.Layout.{rowCount, wellFormed}
-use Rattle.layout.specs.PackedLedger.{rowKind}
-use Rattle.layout.specs.Offsets.{ledgerLength, firstRow, rowLength}
-use Rattle.layout.proofs.LayoutLaws.{row-test}
-use Rattle.layout.proofs.PackedLedger.{packed-laws, packed-format, round-trips}
 use Rattle.records.specs.OneSlot.{recordBytes, IsPacked}
-use Rattle.edits.proofs.PackedChanges.{replaced-row}
-use Rattle.layout.specs.Present.{rowAt, rules, layout, facts, bytes}
-use Rattle.layout.proofs.Present.{formed-length, present}
+use Rattle.rates.specs.declared.Contract.{Contract}
+use Rattle.rates.specs.Rates.{Rateable}
+use Rattle.rates.proofs.WithinCaps.{highestAmount, amount-low}
+use Rattle.model.specs.declared.Row.{Row}
+use Rattle.model.specs.Contracts.{Contracts}
+use Rattle.model.specs.Ledger.{withRows, rerated}
+use Rattle.model.specs.WellFormed.{RowOk}
+use Rattle.model.proofs.PresentRules.{bill-ranges}
+use Rattle.model.proofs.RowBounds as bounds
+use Rattle.layout.specs.PresentLayout.{rowRecord}
+use Rattle.layout.specs.Offsets.{ledgerLength, firstRow, rowLength}
+use Rattle.layout.specs.Present.{rules, facts, bytes, rowAt, Searched}
+use Rattle.layout.proofs.Present.{present, formed-length, facts-kept, repacked}
 use Rattle.layout.proofs.HeldRows.{rows-most}
+use Rattle.edits.proofs.PackedChanges.{length-row, replaced-row}
+use Rattle.ledger.proofs.EachRow.{row-inside, row-there, row-read, SummedTo, summed-none, summed-next, summed-most, summed-all}
 use Rattle.contract_calls.specs.declared.rerating.Rerated.{Rerated}
-use Rattle.contract_calls.specs.Rerating.{Ratable, RatableSlot, newAmount, amountChanges, rowRerated, rowsRerated, slotRerated}
-use Rattle.contract_calls.proofs.FirstMapped.{firstMapped, first-all, length-first, first-at, first-next, total-next, total-end, all-at}
-use Rattle.contract_calls.proofs.RowReading.{row-read, row-packed}
-use Rattle.contract_calls.proofs.RowRerating.{rated-fits, other-row, own-row}
+use Rattle.contract_calls.specs.Rerating.{RowInSlot, newAmount, amountChanges, RowRerated, RowsRerated}
+use Rattle.contract_calls.proofs.FirstMapped.{firstMapped, first-all, length-first, first-next}
+use Rattle.contract_calls.proofs.RowsInSlots.{replaced-rest, replaced-length, same-row, row-packed}
+use Rattle.contract_calls.proofs.RowRerating.{other-row, own-row}
 
-abbrev noRow : Row
-noRow = rowOfNumbers []
+all-at : {A : Type 0} (P : A → Type 0) (xs : List A) (d : A) → All P xs → (n : ℕ) → n < length xs → P (getD xs n d)
+all-at P [] d a n h = absurd (not-suc-le-zero h)
+all-at P (x ∷ xs) d a zero h = a .0
+all-at P (x ∷ xs) d a (suc n) h = all-at P xs d (a .1) n (le-of-suc-le-suc h)
 
--- ---- the rows of a well-formed ledger
+-- a row's amount under any terms is low enough for its sum
+new-amount-most : (contract : ℕ) (terms : Contract) (cs : Contracts) (x : Row) → RowOk rules cs x → newAmount contract terms x ≤ highestAmount
+new-amount-most contract terms cs x o =
+    let r = bill-ranges _ (x .bill) (o .ranges) in
+    either (eqb (x .bill .contract) contract)
+    (λ e. omega (arith, ap (λ (y : Row). y .amount) (own-row contract terms x (eq-yes _ _ e)), amount-low terms (x .bill) (r .kwh) (r .supply)))
+    (λ e. omega (arith, ap (λ (y : Row). y .amount) (other-row contract terms x (eq-no _ _ e)), bounds.amount-low (present .rules) o))
 
-ratable : (cs : Contracts) (x : Row) → RowOk rules cs x → Ratable x
-ratable cs x o =
-    let q = bill-test (contractAt cs (x .bill .contract)) (x .bill) (o .ranges) in
-    record { fits = packed-laws .row cs .fits x (row-test rules cs x o); kwh = le-yes (x .bill .kwh) 100000000 (q 1); supply = le-yes (x .bill .supply) 999999 (q 2) }
+pub new-sum-most : (b : List ℕ) (rows contract : ℕ) (terms : Contract) → Searched b rows → total (newAmount contract terms) (facts b .rows) ≤ rowCount * highestAmount
+new-sum-most b rows contract terms s = bounds.sum-most (facts-kept b (s .formed)) _ highestAmount (new-amount-most contract terms (facts b .contracts))
 
--- after i of the rows of the ledger b₀: the bytes, the sum of the amounts and the number that changed
+-- a held row can be rated
+held-rateable : (b : List ℕ) (rows i : ℕ) → Searched b rows → i < rows → Rateable (rowAt b i .bill)
+held-rateable b rows i s h =
+    let o : RowOk rules (facts b .contracts) (rowAt b i) = rw (row-read b rows i s h (rowAt b i) refl) (all-at (RowOk rules (facts b .contracts)) (facts b .rows) (rowAt b i) (facts-kept b (s .formed) .rows) i (row-there b rows i s h)) in
+    let r = bill-ranges _ (rowAt b i .bill) (o .ranges) in
+    record { kwh = r .kwh; supply = r .supply }
+
+-- after i of the rows of the ledger b₀: the bytes, the sum of the new amounts and how many changed
 pub record Passed (b₀ : List ℕ) (contract : ℕ) (terms : Contract) (i : ℕ) (b : List ℕ) (due changed : ℕ) : Type 0 where
   pub long : length b ≡ ledgerLength
-  pub bytes : b ≡ bytes (withRows (facts b₀) (firstMapped (rerated rules contract terms) i (facts b₀ .rows)))
-  pub amounts : due + total (newAmount contract terms) (drop i (facts b₀ .rows)) ≡ total (newAmount contract terms) (facts b₀ .rows)
-  pub changes : changed + count (amountChanges contract terms) (drop i (facts b₀ .rows)) ≡ count (amountChanges contract terms) (facts b₀ .rows)
+  pub left : b ≡ bytes (withRows (facts b₀) (firstMapped (rerated rules contract terms) i (facts b₀ .rows)))
+  pub rest : drop (firstRow + i * rowLength) b ≡ drop (firstRow + i * rowLength) b₀
+  pub amounts : SummedTo (newAmount contract terms) (facts b₀ .rows) i due
+  pub changes : SummedTo (λ x. cond (amountChanges contract terms x) 1 0) (facts b₀ .rows) i changed
 
-module _ (b₀ : List ℕ) (formed : wellFormed rules layout b₀ ≡ true) where
-  abbrev l : Ledger
-  l = facts b₀
+module _ (b₀ : List ℕ) (rows contract : ℕ) (terms : Contract) (s : Searched b₀ rows) where
+  abbrev f : Row → Row
+  f = rerated rules contract terms
 
   abbrev xs : List Row
-  xs = l .rows
+  xs = facts b₀ .rows
 
-  ratables : All Ratable xs
-  ratables = all-map (RowOk rules (l .contracts)) Ratable (ratable (l .contracts)) xs (packed-format .unpacked b₀ formed .rows)
+  pub none-passed : Passed b₀ contract terms 0 b₀ 0 0
+  none-passed = record { long = formed-length b₀ (s .formed); left = sym (repacked b₀ (s .formed)); rest = refl; amounts = summed-none _ xs; changes = summed-none _ xs }
 
-  sum-low : (w : Row → ℕ) → ((x : Row) → Ratable x → w x ≤ 2 ^ 50) → total w xs ≤ 1024 * 2 ^ 50
-  sum-low w h = omega (arith, rows-most present b₀ formed, total-most w (2 ^ 50) xs (all-map Ratable _ h xs ratables))
-
-  pub old-sum-low : due l ≤ 1024 * 2 ^ 50
-  unfolding due
-  old-sum-low = sum-low (λ x. x .amount) (λ x r. let s = r .fits in omega arith)
-
-  module _ (contract : ℕ) (terms : Contract) where
-    abbrev f : Row → Row
-    f = rerated rules contract terms
-
-    pub none-passed : Passed b₀ contract terms 0 b₀ 0 0
-    none-passed = record { long = formed-length b₀ formed; bytes = sym (round-trips .bytes b₀ formed); amounts = omega arith; changes = omega arith }
-
-    -- ---- the bounds of the sums
-
-    new-low : (x : Row) → Ratable x → newAmount contract terms x ≤ 2 ^ 50
-    new-low x r = either (eqb (x .bill .contract) contract)
-        (λ e. let s = rated-fits terms x (amount terms (x .bill)) r refl in omega (arith, ap (λ (y : Row). y .amount) (own-row contract terms x (eq-yes _ _ e) (amount terms (x .bill)) refl)))
-        (λ e. let s = r .fits in omega (arith, ap (λ (y : Row). y .amount) (other-row contract terms x (eq-no _ _ e))))
-
-    pub new-sum-low : total (newAmount contract terms) xs ≤ 1024 * 2 ^ 50
-    new-sum-low = sum-low (newAmount contract terms) new-low
-
-    pub changes-low : count (amountChanges contract terms) xs ≤ 1024
-    changes-low =
-        omega (arith, rows-most present b₀ formed, total-most (λ x. cond (amountChanges contract terms x) 1 0) 1 xs (all-true _ (λ x. one (amountChanges contract terms x)) xs))
-      where
-        one : (c : Bool) → cond c 1 0 ≤ 1
-        one true = omega arith
-        one false = omega arith
+  module _ (i : ℕ) (b : List ℕ) (due changed : ℕ) (p : Passed b₀ contract terms i b due changed) where
+    pub passed-length : length b ≡ length b₀
+    passed-length = p .long ∙ sym (formed-length b₀ (s .formed))
 
     -- ---- one row more
 
-    module _ (i : ℕ) (inside : i < length xs) (b : List ℕ) (due changed : ℕ) (p : Passed b₀ contract terms i b due changed) where
-      abbrev x : Row
-      x = getD xs i noRow
+    module _ (h : i < rows) where
+      row : rowAt b i ≡ rowAt b₀ i
+      row = same-row b b₀ i (p .rest)
 
-      abbrev passed : Ledger
-      passed = withRows l (firstMapped f i xs)
-
-      within : i < length (passed .rows)
-      within = omega (arith, length-first f i xs)
-
-      few : length (passed .rows) ≤ rowCount
-      few = omega (arith, length-first f i xs, rows-most present b₀ formed)
-
-      here : getD (passed .rows) i noRow ≡ x
-      here = first-at f i xs noRow
-
-      pub next-ratable : Ratable x
-      next-ratable = all-at Ratable xs noRow ratables i inside
-
-      next-fits : Fit (rowKind .widths) (rowKind .values (getD (passed .rows) i noRow))
-      next-fits = subst (λ (y : Row). Fit (rowKind .widths) (rowKind .values y)) (sym here) (next-ratable .fits)
-
-      next-long : length (bytes passed) ≡ ledgerLength
-      next-long = ap length (sym (p .bytes)) ∙ p .long
-
-      next-row : rowAt b i ≡ x
-      next-row = ap (λ (y : List ℕ). rowAt y i) (p .bytes) ∙ row-read passed i noRow within few next-long next-fits ∙ here
-
-      pub next-slot : RatableSlot b i
+      pub next-slot : RowInSlot b i
       next-slot = record {
-        packed = subst (λ (y : List ℕ). IsPacked rowKind (take rowLength (drop (firstRow + i * rowLength) y))) (sym (p .bytes)) (row-packed passed i noRow within few next-long next-fits);
-        ratable = subst Ratable (sym next-row) next-ratable;
+        long = p .long;
+        inside = row-inside b₀ rows i s h;
+        packed = subst (λ (d : List ℕ). IsPacked rowRecord (take rowLength d)) (sym (p .rest)) (row-packed b₀ rows i s h);
+        rateable = rw row (held-rateable b₀ rows i s h);
       }
 
-      next-bytes : (d : List ℕ) → d ≡ slotRerated contract terms i x b → d ≡ bytes (withRows l (firstMapped f (i + 1) xs))
-      unfolding slotRerated
-      next-bytes d e = go (eqb (x .bill .contract) contract) refl e ∙ ap (λ (ys : List Row). bytes (withRows l ys)) (first-next f i xs noRow inside)
-        where
-          go : (own : Bool) → eqb (x .bill .contract) contract ≡ own → d ≡ cond own (replaceAt (firstRow + i * rowLength) (recordBytes rowKind (f x)) b) b
-              → d ≡ bytes (withRows l (set (firstMapped f i xs) i (f x)))
-          go true o w = replaced-row passed b d (p .bytes) i (f x) within few w
-          go false o w =
-              let same : set (firstMapped f i xs) i (f x) ≡ firstMapped f i xs =
-              ap (set (firstMapped f i xs) i) (other-row contract terms x (eq-no _ _ o) ∙ sym here) ∙ set-getD (firstMapped f i xs) i noRow in
-              w ∙ p .bytes ∙ ap (λ (ys : List Row). bytes (withRows l ys)) (sym same)
+      module _ (r : Rerated) (after : List ℕ) (t : RowRerated contract terms b i r after) where
+        pub row-passed : Passed b₀ contract terms (i + 1) after (due + r .due) (changed + r .changed)
+        row-passed =
+            let x : Row = rowAt b₀ i in
+            let at : ℕ = firstRow + i * rowLength in
+            let new : List ℕ = recordBytes rowRecord (f x) in
+            let put : after ≡ replaceAt at new b = t .left ∙ ap (λ (y : Row). replaceAt at (recordBytes rowRecord (f y)) b) row in
+            let inside : at + length new ≤ length b = omega (arith, length-row (f x), p .long, row-inside b₀ rows i s h) in
+            let next : firstRow + (i + 1) * rowLength ≡ at + length new = omega (arith, length-row (f x)) in
+            let few = length-first f i xs in
+            record {
+              long = ap length put ∙ replaced-length at new b inside ∙ p .long;
+              left =
+                  replaced-row (withRows (facts b₀) (firstMapped f i xs)) b after (p .left) i (f x) (omega (arith, row-there b₀ rows i s h)) (omega (arith, rows-most present b₀ (s .formed))) put
+                  ∙ ap (λ (ys : List Row). bytes (withRows (facts b₀) ys)) (rw (row-read b₀ rows i s h x refl) (first-next f i xs x (row-there b₀ rows i s h)));
+              rest =
+                  ap₂ (λ (n : ℕ) (d : List ℕ). drop n d) next put ∙ replaced-rest at new b inside
+                  ∙ sym (drop-drop (length new) at b) ∙ ap (drop (length new)) (p .rest) ∙ drop-drop (length new) at b₀ ∙ ap (λ (n : ℕ). drop n b₀) (sym next);
+              amounts = rw (t .due, row) (summed-next (p .amounts) x x (row-there b₀ rows i s h) (row-read b₀ rows i s h x refl));
+              changes = rw (t .changed, row) (summed-next (p .changes) x x (row-there b₀ rows i s h) (row-read b₀ rows i s h x refl));
+            }
 
-      pub row-passed : (r : Rerated) (d : List ℕ) → r ≡ rowRerated contract terms (rowAt b i) → d ≡ slotRerated contract terms i (rowAt b i) b → length d ≡ ledgerLength
-          → Passed b₀ contract terms (i + 1) d (due + r .due) (changed + r .changed)
-      unfolding rowRerated
-      row-passed r d e w n =
-          let a : r .due ≡ newAmount contract terms x = ap (λ (y : Rerated). y .due) e ∙ ap (newAmount contract terms) next-row in
-          let k : r .changed ≡ cond (amountChanges contract terms x) 1 0 = ap (λ (y : Rerated). y .changed) e ∙ ap (λ (y : Row). cond (amountChanges contract terms y) 1 0) next-row in
-          let sum = total-next (newAmount contract terms) i xs noRow inside in
-          let number = total-next (λ y. cond (amountChanges contract terms y) 1 0) i xs noRow inside in
-          record {
-            long = n;
-            bytes = next-bytes d (w ∙ ap (λ (y : Row). slotRerated contract terms i y b) next-row);
-            amounts = omega (arith, p .amounts);
-            changes = omega (arith, p .changes);
-          }
+        pub due-fits : due + r .due < 2 ^ 64
+        due-fits = omega (arith, summed-most (row-passed .amounts), new-sum-most b₀ rows contract terms s)
+
+        pub changed-fits : changed + r .changed < 2 ^ 32
+        changed-fits = omega (arith, summed-most (row-passed .changes), bounds.count-low (facts-kept b₀ (s .formed)) (amountChanges contract terms))
 
     -- ---- all rows
 
-    pub all-passed : (i : ℕ) (b : List ℕ) (due changed : ℕ) → i ≡ length xs → Passed b₀ contract terms i b due changed
-        → (record { due = due; changed = changed } ≡ rowsRerated contract terms xs) × (b ≡ bytes (withRows l (map f xs)))
-    unfolding rowsRerated
-    all-passed i b due changed e p =
-        let none : total (newAmount contract terms) (drop i xs) ≡ 0 = total-end (newAmount contract terms) i xs (omega arith) in
-        let still : count (amountChanges contract terms) (drop i xs) ≡ 0 = total-end (λ y. cond (amountChanges contract terms y) 1 0) i xs (omega arith) in
-        let a : due ≡ total (newAmount contract terms) xs = omega (arith, p .amounts) in
-        let k : changed ≡ count (amountChanges contract terms) xs = omega (arith, p .changes) in (
-          ap₂ (λ (m n : ℕ). record { due = m; changed = n }) (a ∙ sym (total-map (λ y. y .amount) f xs)) k,
-          p .bytes ∙ ap (λ (ys : List Row). bytes (withRows l ys)) (ap (λ (n : ℕ). firstMapped f n xs) e ∙ first-all f xs),
-        )
+    pub all-passed : i ≤ rows → rows ≤ i → RowsRerated contract terms b₀ (record { due = due; changed = changed }) b
+    all-passed h k =
+        let end : i ≡ length xs = omega (arith, s .count) in
+        record {
+          due = summed-all (p .amounts) end ∙ sym (total-map (λ y. y .amount) f xs);
+          changed = summed-all (p .changes) end;
+          left = p .left ∙ ap (λ (ys : List Row). bytes (withRows (facts b₀) ys)) (ap (λ (n : ℕ). firstMapped f n xs) end ∙ first-all f xs);
+          long = p .long;
+        }

@@ -1,3 +1,3 @@
--- What start answers and leaves, and what re-rating leaves of rows.
+-- What start answers and leaves, and what re-rating finds and leaves of rows.
 pub mod Start
 pub mod Rerating

@@ -1,50 +1,58 @@
--- Document 01, "Calls": cert re-rates the contract's rows. What that finds of one row and of all, and the bytes that it leaves of a row. Assumes nothing.
+-- Document 01, "Calls": cert re-rates the contract's rows. What is needed of a row's slot, and what is found and left of one row and of
+-- all. Assumes nothing.
 use mathlib.Core.Path.{_≡_}
-use mathlib.Core.Bool.{Bool, true, not, cond}
-use mathlib.Core.List.{List, map}
-use Prim.Native.Nat.{ℕ, _+_, _*_, _≤_}
+use mathlib.Core.Bool.{Bool, not, cond}
+use mathlib.Core.List.{List, [], map}
+use Prim.Native.Nat.{ℕ, _+_, _*_, _<_}
 use lib.Dec.{eqb}
-use lib.ListN.{take, drop}
+use lib.ListN.{length, take, drop}
+use Rattle.limits.specs.Limits.{rowCount}
 use Rattle.basics.specs.Lists.{total, count}
-use Rattle.fields.specs.Fields.{Fit}
 use Rattle.records.specs.Edits.{replaceAt}
-use Rattle.rates.specs.declared.Contract.{Contract}
-use Rattle.model.specs.declared.Row.{Row}
-use Rattle.model.specs.Ledger.{ofContract, rerated}
-use Rattle.layout.specs.PackedLedger.{rowKind}
-use Rattle.layout.specs.Offsets.{firstRow, rowLength}
 use Rattle.records.specs.OneSlot.{recordBytes, IsPacked}
-use Rattle.layout.specs.Present.{rowAt, rules}
+use Rattle.rates.specs.declared.Contract.{Contract}
+use Rattle.rates.specs.Rates.{Rateable}
+use Rattle.model.specs.declared.Row.{Row}
+use Rattle.model.specs.declared.Call.{Call}
+use Rattle.model.specs.Calls.{_with_}
+use Rattle.model.specs.Rules.{refusal}
+use Rattle.model.specs.Ledger.{rerated, withRows}
+use Rattle.layout.specs.PresentLayout.{rowRecord}
+use Rattle.layout.specs.Offsets.{ledgerLength, firstRow, rowLength}
+use Rattle.layout.specs.Present.{rules, facts, bytes, rowAt}
+use Rattle.ledger.specs.Answered.{viewOf, Summed}
 use Rattle.contract_calls.specs.declared.rerating.Rerated.{Rerated}
 
--- a row whose numbers fit their fields, and whose kWh and S are low enough that its amount fits under any contract
-pub record Ratable (x : Row) : Type 0 where
-  pub fits : Fit (rowKind .widths) (rowKind .values x)
-  pub kwh : x .bill .kwh ≤ 100000000
-  pub supply : x .bill .supply ≤ 999999
+-- a well-formed ledger with that many rows and that sum, and a cert that nothing turns down
+pub record Certifiable (b : List ℕ) (rows sum contract class effective : ℕ) : Type 0 where
+  pub summed : Summed b rows sum
+  pub accepted : 0 ≡ refusal rules (viewOf b) (Call.Cert contract class effective with [])
 
--- a slot that holds such a row
-pub record RatableSlot (b : List ℕ) (i : ℕ) : Type 0 where
-  pub packed : IsPacked rowKind (take rowLength (drop (firstRow + i * rowLength) b))
-  pub ratable : Ratable (rowAt b i)
+-- slot i holds a row that can be rated
+pub record RowInSlot (b : List ℕ) (i : ℕ) : Type 0 where
+  pub long : length b ≡ ledgerLength
+  pub inside : i < rowCount
+  pub packed : IsPacked rowRecord (take rowLength (drop (firstRow + i * rowLength) b))
+  pub rateable : Rateable (rowAt b i .bill)
 
 module _ (contract : ℕ) (terms : Contract) where
   -- a row's amount under the terms, where it is a row of the contract
   abbrev pub newAmount : Row → ℕ
   newAmount x = rerated rules contract terms x .amount
 
-  -- whether a row's amount changes
+  -- whether that is another amount
   abbrev pub amountChanges : Row → Bool
   amountChanges x = not (eqb (newAmount x) (x .amount))
 
-  -- of one row its new amount, and 1 where that is another
-  unfoldable pub rowRerated : Row → Rerated
-  rowRerated x = record { due = newAmount x; changed = cond (amountChanges x) 1 0 }
+  -- row i: its new amount, 1 where that is another, and the bytes with the row re-rated
+  pub record RowRerated (b : List ℕ) (i : ℕ) (found : Rerated) (after : List ℕ) : Type 0 where
+    pub due : found .due ≡ newAmount (rowAt b i)
+    pub changed : found .changed ≡ cond (amountChanges (rowAt b i)) 1 0
+    pub left : after ≡ replaceAt (firstRow + i * rowLength) (recordBytes rowRecord (rerated rules contract terms (rowAt b i))) b
 
-  -- of all rows the sum of their new amounts, and how many are others
-  unfoldable pub rowsRerated : List Row → Rerated
-  rowsRerated xs = record { due = total (λ x. x .amount) (map (rerated rules contract terms) xs); changed = count amountChanges xs }
-
-  -- the bytes with the row x, which slot i holds, re-rated
-  unfoldable pub slotRerated : ℕ → Row → List ℕ → List ℕ
-  slotRerated i x b = cond (ofContract contract x) (replaceAt (firstRow + i * rowLength) (recordBytes rowKind (rerated rules contract terms x)) b) b
+  -- all rows: the sum of their new amounts, how many are others, and the bytes with all rows re-rated
+  pub record RowsRerated (b : List ℕ) (found : Rerated) (after : List ℕ) : Type 0 where
+    pub due : found .due ≡ total (λ x. x .amount) (map (rerated rules contract terms) (facts b .rows))
+    pub changed : found .changed ≡ count amountChanges (facts b .rows)
+    pub left : after ≡ bytes (withRows (facts b) (map (rerated rules contract terms) (facts b .rows)))
+    pub long : length after ≡ ledgerLength

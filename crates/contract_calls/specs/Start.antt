@@ -8,7 +8,7 @@ use Rattle.model.specs.declared.Answer.{Answer}
 use Rattle.model.specs.declared.Answer.the-variants.{Refused, Done}
 use Rattle.model.specs.Calls.{_if_, firstOf}
 use Rattle.model.specs.Ledger.{fresh}
-use Rattle.model.specs.Format.{unlessRefused}
+use Rattle.model.specs.Rules.{unlessRefused}
 use Rattle.layout.specs.Offsets.{ledgerLength}
 use Rattle.layout.specs.Present.{bytes}
 

@@ -1,9 +1,9 @@
 // The contracts that the calls make: one that is opened, and one with another certificate.
-use codec::codes::certificate_of;
-use codec::codes::fuel_of;
-use codec::codes::kind_of;
 use rates::Certificate;
 use rates::Contract;
+use rules::codes::certificate_of;
+use rules::codes::fuel_of;
+use rules::codes::kind_of;
 ghost use mathlib.Core.Path.{_≡_};
 ghost use Rattle.model.specs.Codes.{opening, certify};
 

@@ -1,15 +1,13 @@
 // The calls that start a ledger, open a contract and replace a contract's certificate.
 mod contracts;
-pub mod refusals;
+mod refusals;
 mod rerating;
 
 use contracts::certify;
 use contracts::opening;
 use edits::fresh;
 use edits::write_contract;
-use layout::Checked;
 use layout::LEDGER_LENGTH;
-use ledger::check::check;
 use ledger::contracts::contract_at;
 use model::Answer;
 use refusals::refused_cert;
@@ -17,9 +15,11 @@ use refusals::refused_open;
 use rerating::rerate_rows;
 use signed::difference;
 ghost use mathlib.Core.Path.{_≡_};
-ghost use Rattle.model.specs.Calls.{callOpen, callCert};
-ghost use Rattle.layout.specs.Present.{machine};
+ghost use Rattle.model.specs.declared.Call.{Call};
+ghost use Rattle.layout.specs.Present.{Formed};
+ghost use Rattle.ledger.specs.Answered.{Summed, AnsweredWithAnyBook};
 ghost use Rattle.contract_calls.specs.Start.{startAnswer, startBytes};
+ghost use Rattle.contract_calls.specs.Rerating.{Certifiable};
 
 // start: a fresh ledger over a buffer of any contents.
 pub fn start(ledger: &mut [u8], territory: u32) -> Answer
@@ -44,11 +44,9 @@ pub fn open_contract(
     price_fix_day: u32,
     entry_day: u32,
 ) -> Answer
-    ensures { λ r. ⌜ (r ≡ machine .answer (now (ledger .entry)) (callOpen contract fuel kind «price_fix_day» «entry_day»)) × (now (ledger .exit) ≡ machine .step (now (ledger .entry)) (callOpen contract fuel kind «price_fix_day» «entry_day»)) ⌝ }
+    requires { ⌜ Formed (now ledger) ⌝ }
+    ensures { λ r. ⌜ AnsweredWithAnyBook (now (ledger .entry)) (Call.Open contract fuel kind «price_fix_day» «entry_day») r (now (ledger .exit)) ⌝ }
 {
-    let Checked::WellFormed { rows: _, due: _ } = check(ledger) else {
-        return Answer::Refused(2);
-    };
     let refused = refused_open(ledger, contract, fuel, kind, price_fix_day, entry_day);
     if refused != 0 {
         return Answer::Refused(refused);
@@ -58,23 +56,43 @@ pub fn open_contract(
     Answer::Done
 }
 
-// cert: another certificate in place of the contract's, and the contract's rows re-rated.
-pub fn cert(ledger: &mut [u8], contract: u32, class: u32, effective_day: u32) -> Answer
-    ensures { λ r. ⌜ (r ≡ machine .answer (now (ledger .entry)) (callCert contract class «effective_day»)) × (now (ledger .exit) ≡ machine .step (now (ledger .entry)) (callCert contract class «effective_day»)) ⌝ }
+// A cert that nothing turns down.
+fn accepted_cert(
+    ledger: &mut [u8],
+    rows: usize,
+    due: u64,
+    contract: u32,
+    class: u32,
+    effective_day: u32,
+) -> Answer
+    requires { ⌜ Certifiable (now ledger) rows due contract class «effective_day» ⌝ }
+    ensures { λ r. ⌜ AnsweredWithAnyBook (now (ledger .entry)) (Call.Cert contract class «effective_day») r (now (ledger .exit)) ⌝ }
 {
-    let Checked::WellFormed { rows, due } = check(ledger) else {
-        return Answer::Refused(2);
-    };
-    let refused = refused_cert(ledger, contract, class, effective_day);
-    if refused != 0 {
-        return Answer::Refused(refused);
-    }
     let c = contract as usize;
     let certified = certify(contract_at(ledger, c), class, effective_day);
-    let rerated = rerate_rows(ledger, rows as usize, contract, certified);
+    let rerated = rerate_rows(ledger, rows, contract, certified);
     write_contract(ledger, c, certified);
     Answer::Certified {
         change: difference(rerated.due, due),
         rows: rerated.changed,
     }
+}
+
+// cert: another certificate in place of the contract's, and the contract's rows re-rated.
+pub fn cert(
+    ledger: &mut [u8],
+    rows: usize,
+    due: u64,
+    contract: u32,
+    class: u32,
+    effective_day: u32,
+) -> Answer
+    requires { ⌜ Summed (now ledger) rows due ⌝ }
+    ensures { λ r. ⌜ AnsweredWithAnyBook (now (ledger .entry)) (Call.Cert contract class «effective_day») r (now (ledger .exit)) ⌝ }
+{
+    let refused = refused_cert(ledger, contract, class, effective_day);
+    if refused != 0 {
+        return Answer::Refused(refused);
+    }
+    accepted_cert(ledger, rows, due, contract, class, effective_day)
 }

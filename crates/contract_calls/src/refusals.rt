@@ -1,16 +1,19 @@
-// The numbers above 2 that turn down a call on a contract, in checking order; 0 where none does.
+// The numbers that turn down an open or a cert, in checking order; 0 where none does.
 use codec::header::territory;
-use codec::ranges::bad_days;
-use codec::ranges::bad_effective;
-use codec::ranges::bad_kind;
 use ledger::contracts::is_open;
+use ledger::contracts::refused_contract;
+use limits::CONTRACT_COUNT;
+use rules::ranges::bad_class;
+use rules::ranges::bad_days;
+use rules::ranges::bad_effective;
+use rules::ranges::bad_kind;
 ghost use mathlib.Core.Path.{_≡_};
-ghost use lib.ListN.{length};
-ghost use Rattle.model.specs.Calls.{callOpen, callCert};
+ghost use mathlib.Core.List.{[]};
+ghost use Rattle.model.specs.declared.Call.{Call};
+ghost use Rattle.model.specs.Calls.{_with_};
 ghost use Rattle.model.specs.Rules.{refusal};
-ghost use Rattle.model.specs.Ledger.{view};
-ghost use Rattle.layout.specs.Offsets.{ledgerLength};
-ghost use Rattle.layout.specs.Present.{rules, facts};
+ghost use Rattle.layout.specs.Present.{Formed, rules};
+ghost use Rattle.ledger.specs.Answered.{viewOf};
 
 // The number that turns an open down.
 pub fn refused_open(
@@ -21,10 +24,10 @@ pub fn refused_open(
     price_fix_day: u32,
     entry_day: u32,
 ) -> u32
-    requires { ⌜ length (now ledger) ≡ ledgerLength ⌝ }
-    ensures { λ r. ⌜ r ≡ refusal rules (view (facts (now (ledger .entry)))) (callOpen contract fuel kind «price_fix_day» «entry_day») ⌝ }
+    requires { ⌜ Formed (now ledger) ⌝ }
+    ensures { λ r. ⌜ r ≡ refusal rules (viewOf (now (ledger .entry))) (Call.Open contract fuel kind «price_fix_day» «entry_day» with []) ⌝ }
 {
-    if 63 < contract {
+    if CONTRACT_COUNT <= contract as usize {
         return 4;
     }
     if is_open(ledger, contract as usize) {
@@ -41,16 +44,14 @@ pub fn refused_open(
 
 // The number that turns a cert down.
 pub fn refused_cert(ledger: &[u8], contract: u32, class: u32, effective_day: u32) -> u32
-    requires { ⌜ length (now ledger) ≡ ledgerLength ⌝ }
-    ensures { λ r. ⌜ r ≡ refusal rules (view (facts (now (ledger .entry)))) (callCert contract class «effective_day») ⌝ }
+    requires { ⌜ Formed (now ledger) ⌝ }
+    ensures { λ r. ⌜ r ≡ refusal rules (viewOf (now (ledger .entry))) (Call.Cert contract class «effective_day» with []) ⌝ }
 {
-    if 63 < contract {
-        return 4;
+    let refused = refused_contract(ledger, contract);
+    if refused != 0 {
+        return refused;
     }
-    if !is_open(ledger, contract as usize) {
-        return 5;
-    }
-    if 2 < class {
+    if bad_class(class) {
         return 6;
     }
     if bad_effective(class, effective_day) {

@@ -1,2 +1,2 @@
--- What C gets of what is told.
+-- What C gets of an answer.
 pub mod Given

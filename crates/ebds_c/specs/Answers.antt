@@ -1,15 +1,18 @@
--- What a function for C gives of a call; the answers whose numbers fit 64 bits with a sign, as all answers of the ledger's calls do. Assumes nothing.
+-- What a function for C gives: the number that it returns, the numbers of the answer and, of a call on the ledger, the bytes left. Assumes nothing.
 use mathlib.Core.Path.{_≡_}
 use mathlib.Core.List.{List}
-use Prim.Native.Nat.{ℕ, _<_, _^_}
+use Prim.Native.Nat.{ℕ}
 use lib.IntN.{ℤ}
-use Rattle.model.specs.declared.Answer.{Answer}
-use Rattle.model.specs.declared.Answer.the-variants.{Refused, Done, Billed, Rebilled, Certified, Cancelled, Claimed, Reported, Totalled}
-use Rattle.model.specs.Calls.{Call, refusalNumber, answerValues}
+use Rattle.model.specs.declared.Reply.{Reply}
+use Rattle.model.specs.Calls.{CallWithBook, replyOf}
 use Rattle.layout.specs.Present.{machine}
 
--- a call on a ledger's bytes gives the machine's number and values, and leaves the machine's bytes
-pub record Gives (ledger : List ℕ) (call : Call) (n : ℕ) (vs : List ℤ) (after : List ℕ) : Type 0 where
-  pub number : n ≡ refusalNumber (machine .answer ledger call)
-  pub values : vs ≡ answerValues (machine .answer ledger call)
+-- of a reply: the number of the refusal is returned, and all numbers of the answer are written
+pub record Given (reply : Reply) (returned : ℕ) (answer : List ℤ) : Type 0 where
+  pub number : returned ≡ reply .refused
+  pub values : answer ≡ reply .numbers
+
+-- a call on a ledger's bytes gives the reply of the machine's answer, and leaves the machine's bytes
+pub record Gives (ledger : List ℕ) (call : CallWithBook) (returned : ℕ) (answer : List ℤ) (after : List ℕ) : Type 0 where
+  pub given : Given (replyOf (machine .answer ledger call)) returned answer
   pub left : after ≡ machine .step ledger call

@@ -1,14 +1,14 @@
-// What is told of an answer, as C gets it: three numbers, and the number of the refusal.
-use calls::told::tell;
+// What is told of an answer, as C gets it: its numbers, and the number of the refusal.
+use calls::replies::reply_of;
+use model::ANSWER_NUMBERS;
 use model::Call;
-use model::Told;
-ghost use mathlib.Core.Path.{_≡_};
-ghost use Rattle.model.specs.Calls.{asked};
-ghost use Rattle.ebds_c.specs.Answers.{Gives};
+use model::Reply;
+ghost use Rattle.model.specs.Calls.{_with_};
+ghost use Rattle.ebds_c.specs.Answers.{Given, Gives};
 
 // Gives what is told.
-pub fn give(told: Told, answer: &mut [i64; 3]) -> u32
-    ensures { λ r. ⌜ (r ≡ told .refused) × (now (answer .exit) ≡ told .numbers) ⌝ }
+pub fn give(told: Reply, answer: &mut [i64; ANSWER_NUMBERS]) -> u32
+    ensures { λ r. ⌜ Given told r (now (answer .exit)) ⌝ }
 {
     let numbers = told.numbers;
     *answer = numbers;
@@ -16,8 +16,8 @@ pub fn give(told: Told, answer: &mut [i64; 3]) -> u32
 }
 
 // Makes a call of a history, and gives its answer.
-pub fn make(ledger: &mut [u8], book: &[u32], call: Call, answer: &mut [i64; 3]) -> u32
-    ensures { λ r. ⌜ Gives (now (ledger .entry)) (asked call (now (book .entry))) r (now (answer .exit)) (now (ledger .exit)) ⌝ }
+pub fn make(ledger: &mut [u8], book: &[u32], call: Call, answer: &mut [i64; ANSWER_NUMBERS]) -> u32
+    ensures { λ r. ⌜ Gives (now (ledger .entry)) (call with (now (book .entry))) r (now (answer .exit)) (now (ledger .exit)) ⌝ }
 {
-    give(tell(calls::perform(ledger, book, call)), answer)
+    give(reply_of(calls::perform(ledger, book, call)), answer)
 }

@@ -6,6 +6,7 @@ use mathlib.Core.Option.{some}
 use Prim.Native.Nat.{ℕ, suc, _+_, _*_, _≤_, _<_}
 use native.Mathlib.Omega.{arith}
 use lib.ListN.{length, set, replicate}
+use Rattle.limits.specs.Limits.{contractCount, rowCount}
 use Rattle.records.specs.Pack.{size, pack}
 use Rattle.records.specs.Slots.{slotOut, whole}
 use Rattle.records.specs.Places.{inserted, removed}
@@ -15,30 +16,30 @@ use Rattle.rates.specs.declared.Contract.{Contract}
 use Rattle.model.specs.declared.Row.{Row}
 use Rattle.model.specs.Contracts.{putContract}
 use Rattle.model.specs.Ledger.{Ledger, fresh, withRows}
-use Rattle.layout.specs.Layout.{rowCount, contractsFrom, rowsFrom, ledgerSize}
-use Rattle.layout.specs.PackedLedger.{contractKind, rowKind}
-use Rattle.layout.specs.Offsets.{ledgerLength, firstContract, contractLength, contractCount, firstRow, rowLength}
+use Rattle.layout.specs.Layout.{contractsFrom, rowsFrom, ledgerSize}
+use Rattle.layout.specs.PresentLayout.{contractRecord, rowRecord}
+use Rattle.layout.specs.Offsets.{ledgerLength, firstContract, contractLength, firstRow, rowLength}
 use Rattle.layout.proofs.Changes.{row-inserted, row-removed, row-replaced, contract-put, header-changed, fresh-bytes}
 use Rattle.records.specs.OneSlot.{recordBytes}
 use Rattle.layout.specs.Present.{rules, layout, bytes}
 
-pub length-row : (x : Row) → length (recordBytes rowKind x) ≡ rowLength
+pub length-row : (x : Row) → length (recordBytes rowRecord x) ≡ rowLength
 unfolding recordBytes size
-length-row x = length-pack (whole rowKind) (slotOut rowKind (some x))
+length-row x = length-pack (whole rowRecord) (slotOut rowRecord (some x))
 
-pub length-contract : (k : Contract) → length (recordBytes contractKind k) ≡ contractLength
+pub length-contract : (k : Contract) → length (recordBytes contractRecord k) ≡ contractLength
 unfolding recordBytes size
-length-contract k = length-pack (whole contractKind) (slotOut contractKind (some k))
+length-contract k = length-pack (whole contractRecord) (slotOut contractRecord (some k))
 
 module _ (l : Ledger) (b d : List ℕ) (held : b ≡ bytes l) where
   -- after `insert_row`
   pub inserted-row : (rows i : ℕ) (row : Row) → length (l .rows) ≡ rows → i ≤ rows → rows < rowCount
-      → d ≡ onPart firstRow (firstRow + (rows + 1) * rowLength) (insertAt (i * rowLength) (recordBytes rowKind row)) b
+      → d ≡ onPart firstRow (firstRow + (rows + 1) * rowLength) (insertAt (i * rowLength) (recordBytes rowRecord row)) b
       → d ≡ bytes (withRows l (inserted i row (l .rows)))
   unfolding recordBytes size rowsFrom contractsFrom
   inserted-row rows i row n h m e =
       let end : rows + 1 ≡ suc (length (l .rows)) = omega arith in
-      e ∙ ap₂ (λ (k : ℕ) (x : List ℕ). onPart firstRow (firstRow + k * rowLength) (insertAt (i * rowLength) (recordBytes rowKind row)) x) end held
+      e ∙ ap₂ (λ (k : ℕ) (x : List ℕ). onPart firstRow (firstRow + k * rowLength) (insertAt (i * rowLength) (recordBytes rowRecord row)) x) end held
       ∙ sym (row-inserted rules layout refl l row i (omega arith) (omega arith))
 
   -- after `remove_row`
@@ -52,19 +53,19 @@ module _ (l : Ledger) (b d : List ℕ) (held : b ≡ bytes l) where
 
   -- after `replace_row`
   pub replaced-row : (i : ℕ) (row : Row) → i < length (l .rows) → length (l .rows) ≤ rowCount
-      → d ≡ replaceAt (firstRow + i * rowLength) (recordBytes rowKind row) b
+      → d ≡ replaceAt (firstRow + i * rowLength) (recordBytes rowRecord row) b
       → d ≡ bytes (withRows l (set (l .rows) i row))
   unfolding recordBytes size rowsFrom contractsFrom
   replaced-row i row h m e =
-      e ∙ ap (replaceAt (firstRow + i * rowLength) (recordBytes rowKind row)) held ∙ sym (row-replaced rules layout refl l row i h m)
+      e ∙ ap (replaceAt (firstRow + i * rowLength) (recordBytes rowRecord row)) held ∙ sym (row-replaced rules layout refl l row i h m)
 
   -- after `write_contract`
   pub written-contract : (c : ℕ) (k : Contract) → c < contractCount
-      → d ≡ replaceAt (firstContract + c * contractLength) (recordBytes contractKind k) b
+      → d ≡ replaceAt (firstContract + c * contractLength) (recordBytes contractRecord k) b
       → d ≡ bytes (record { territory = l .territory; contracts = putContract (l .contracts) c k; rows = l .rows; claims = l .claims; pence = l .pence })
   unfolding recordBytes size contractsFrom
   written-contract c k h e =
-      e ∙ ap (replaceAt (firstContract + c * contractLength) (recordBytes contractKind k)) held ∙ sym (contract-put rules layout l c k h)
+      e ∙ ap (replaceAt (firstContract + c * contractLength) (recordBytes contractRecord k)) held ∙ sym (contract-put rules layout l c k h)
 
   -- after `write_header`
   pub written-header : (claims pence : ℕ) → d ≡ replaceAt 0 (pack (layout .header) (l .territory ∷ claims ∷ pence ∷ [])) b

@@ -10,22 +10,22 @@ use layout::ROW_LENGTH;
 use model::Row;
 use rates::Contract;
 ghost use mathlib.Core.Path.{_≡_};
-ghost use mathlib.Core.Bool.{true};
 ghost use Prim.Native.Nat.{_+_, _*_, _^_, _≤_, _<_};
 ghost use lib.ListN.{length, take, drop};
+ghost use Rattle.limits.specs.Limits.{contractCount, rowCount};
 ghost use Rattle.fields.specs.Fields.{Fit};
 ghost use Rattle.records.specs.Edits.{insertAt, removeAt, replaceAt, onPart};
 ghost use Rattle.model.specs.Ledger.{fresh, withAmount};
-ghost use Rattle.layout.specs.Layout.{rowCount};
-ghost use Rattle.layout.specs.PackedLedger.{contractKind, rowKind};
-ghost use Rattle.layout.specs.Offsets.{ledgerLength, firstContract, contractLength, contractCount, firstRow, rowLength};
+ghost use Rattle.layout.specs.PresentLayout.{contractRecord, rowRecord};
+ghost use Rattle.layout.specs.Offsets.{ledgerLength, firstContract, contractLength, firstRow, rowLength};
 ghost use Rattle.records.specs.OneSlot.{recordIn, recordBytes, IsPacked};
 ghost use Rattle.layout.specs.Present.{bytes};
+ghost use Rattle.edits.specs.RowEdits.{Insertable, Replaceable, Removable};
 
 // Of the `rows` held rows, those from row i on move up, and the row comes in at place i.
 pub fn insert_row(b: &mut [u8], rows: usize, i: usize, row: Row)
-    requires { ⌜ (length (now b) ≡ ledgerLength) × ((i ≤ rows) × ((rows < rowCount) × Fit (rowKind .widths) (rowKind .values row))) ⌝ }
-    ensures { λ _. ⌜ now (b .exit) ≡ onPart firstRow (firstRow + (rows + 1) * rowLength) (insertAt (i * rowLength) (recordBytes rowKind row)) (now (b .entry)) ⌝ }
+    requires { ⌜ Insertable (now b) rows i row ⌝ }
+    ensures { λ _. ⌜ now (b .exit) ≡ onPart firstRow (firstRow + (rows + 1) * rowLength) (insertAt (i * rowLength) (recordBytes rowRecord row)) (now (b .entry)) ⌝ }
 {
     let mut slot = [0u8; ROW_LENGTH];
     pack_row(&mut slot, row);
@@ -35,7 +35,7 @@ pub fn insert_row(b: &mut [u8], rows: usize, i: usize, row: Row)
 
 // Of the `rows` held rows, row i goes, those after it move down, and the last slot is free.
 pub fn remove_row(b: &mut [u8], rows: usize, i: usize)
-    requires { ⌜ (length (now b) ≡ ledgerLength) × ((i < rows) × (rows ≤ rowCount)) ⌝ }
+    requires { ⌜ Removable (now b) rows i ⌝ }
     ensures { λ _. ⌜ now (b .exit) ≡ onPart firstRow (firstRow + rows * rowLength) (removeAt (i * rowLength) rowLength) (now (b .entry)) ⌝ }
 {
     let end = FIRST_ROW + rows * ROW_LENGTH;
@@ -44,8 +44,8 @@ pub fn remove_row(b: &mut [u8], rows: usize, i: usize)
 
 // Writes the row in the place of row i.
 pub fn replace_row(b: &mut [u8], i: usize, row: Row)
-    requires { ⌜ (length (now b) ≡ ledgerLength) × ((i < rowCount) × Fit (rowKind .widths) (rowKind .values row)) ⌝ }
-    ensures { λ _. ⌜ now (b .exit) ≡ replaceAt (firstRow + i * rowLength) (recordBytes rowKind row) (now (b .entry)) ⌝ }
+    requires { ⌜ Replaceable (now b) i row ⌝ }
+    ensures { λ _. ⌜ now (b .exit) ≡ replaceAt (firstRow + i * rowLength) (recordBytes rowRecord row) (now (b .entry)) ⌝ }
 {
     let at = FIRST_ROW + i * ROW_LENGTH;
     pack_row(&mut b[at..at + ROW_LENGTH], row);
@@ -53,8 +53,8 @@ pub fn replace_row(b: &mut [u8], i: usize, row: Row)
 
 // Writes the amount of row i, which is held.
 pub fn replace_amount(b: &mut [u8], i: usize, amount: u64)
-    requires { ⌜ (length (now b) ≡ ledgerLength) × ((i < rowCount) × (IsPacked rowKind (take rowLength (drop (firstRow + i * rowLength) (now b))) × (amount < 2 ^ 50))) ⌝ }
-    ensures { λ _. ⌜ now (b .exit) ≡ replaceAt (firstRow + i * rowLength) (recordBytes rowKind (withAmount (recordIn rowKind (take rowLength (drop (firstRow + i * rowLength) (now (b .entry))))) amount)) (now (b .entry)) ⌝ }
+    requires { ⌜ (length (now b) ≡ ledgerLength) × ((i < rowCount) × (IsPacked rowRecord (take rowLength (drop (firstRow + i * rowLength) (now b))) × (amount < 2 ^ 50))) ⌝ }
+    ensures { λ _. ⌜ now (b .exit) ≡ replaceAt (firstRow + i * rowLength) (recordBytes rowRecord (withAmount (recordIn rowRecord (take rowLength (drop (firstRow + i * rowLength) (now (b .entry))))) amount)) (now (b .entry)) ⌝ }
 {
     let start = FIRST_ROW + i * ROW_LENGTH;
     put_amount(&mut b[start..start + ROW_LENGTH], amount);
@@ -62,8 +62,8 @@ pub fn replace_amount(b: &mut [u8], i: usize, amount: u64)
 
 // Writes the contract under the number c, whether or not that number was open.
 pub fn write_contract(b: &mut [u8], c: usize, contract: Contract)
-    requires { ⌜ (length (now b) ≡ ledgerLength) × ((c < contractCount) × Fit (contractKind .widths) (contractKind .values contract)) ⌝ }
-    ensures { λ _. ⌜ now (b .exit) ≡ replaceAt (firstContract + c * contractLength) (recordBytes contractKind contract) (now (b .entry)) ⌝ }
+    requires { ⌜ (length (now b) ≡ ledgerLength) × ((c < contractCount) × Fit (contractRecord .widths) (contractRecord .values contract)) ⌝ }
+    ensures { λ _. ⌜ now (b .exit) ≡ replaceAt (firstContract + c * contractLength) (recordBytes contractRecord contract) (now (b .entry)) ⌝ }
 {
     let at = FIRST_CONTRACT + c * CONTRACT_LENGTH;
     pack_contract(&mut b[at..at + CONTRACT_LENGTH], contract);

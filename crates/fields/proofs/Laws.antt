@@ -281,13 +281,6 @@ fields-of-bits b at (w ∷ ws) (v ∷ vs) rest f e =
     (ap (λ (m : List Bool). value (take w m)) g ∙ ap value (take-at (bitsOf w v) l w (length-bitsOf w v)) ∙ value-bitsOf w v ∙ mod-eq-of-lt (f .0))
     (fields-of-bits b (at + w) ws vs rest (f .1) (sym (drop-drop w at (bits b)) ∙ ap (drop w) g ∙ drop-at (bitsOf w v) l w (length-bitsOf w v)))
 
--- the values that were put are the values that are got
-pub fields-setFields : (b : List ℕ) (at : ℕ) (ws vs : List ℕ) → at + sum ws ≤ 8 * length b → Fit ws vs → fields (setFields b at ws vs) at ws ≡ vs
-fields-setFields b at ws vs h f =
-    fields-of-bits (setFields b at ws vs) at ws vs (drop (at + sum ws) (bits b)) f
-    (ap (drop at) (bits-setFields b at ws vs h f)
-    ∙ drop-at (take at (bits b)) (fieldBits ws vs ++ drop (at + sum ws) (bits b)) at (length-take-le at (bits b) (omega (arith, length-bits b))))
-
 -- ---- packing values into bytes, and unpacking them
 
 -- packed and unpacked again: the values
@@ -312,22 +305,3 @@ pub packed-fields : (b ws : List ℕ) → AreBytes b → sum ws ≡ 8 * length b
 packed-fields b ws hb e =
     ap (bytes (length b)) (fieldBits-fields b 0 ws (omega arith) ∙ take-all (sum ws) (bits b) (omega (arith, length-bits b)))
     ∙ bytes-bits b hb
-
--- bytes of one length that agree on adjacent fields covering them are equal
-pub fields-inj : (b c ws : List ℕ) → AreBytes b → AreBytes c → sum ws ≡ 8 * length b → length b ≡ length c → fields b 0 ws ≡ fields c 0 ws → b ≡ c
-fields-inj b c ws hb hc e l h =
-    sym (packed-fields b ws hb e) ∙ ap₂ (λ (n : ℕ) (vs : List ℕ). bytes n (fieldBits ws vs)) l h ∙ packed-fields c ws hc (omega arith)
-
--- putting values in fields that cover the bytes packs the values, whatever the bytes were
-pub setFields-packed : (z ws vs : List ℕ) → AreBytes z → Fit ws vs → sum ws ≡ 8 * length z → setFields z 0 ws vs ≡ bytes (length z) (fieldBits ws vs)
-setFields-packed z ws vs hz f e =
-    let l : length (setFields z 0 ws vs) ≡ length z = length-setFields z 0 ws vs in
-    fields-inj (setFields z 0 ws vs) (bytes (length z) (fieldBits ws vs)) ws (are-setFields z 0 ws vs hz) (are-bytes (length z) (fieldBits ws vs))
-    (omega arith) (l ∙ sym (length-bytes (length z) (fieldBits ws vs)))
-    (fields-setFields z 0 ws vs (omega arith) f ∙ sym (fields-packed (length z) ws vs f e))
-
--- putting what the fields of other bytes hold gives these bytes
-pub setFields-fields : (z b ws : List ℕ) → AreBytes z → AreBytes b → length z ≡ length b → sum ws ≡ 8 * length b → setFields z 0 ws (fields b 0 ws) ≡ b
-setFields-fields z b ws hz hb l e =
-    setFields-packed z ws (fields b 0 ws) hz (fields-fit b 0 ws) (omega arith)
-    ∙ ap (λ (n : ℕ). bytes n (fieldBits ws (fields b 0 ws))) l ∙ packed-fields b ws hb e

@@ -1,22 +1,23 @@
 -- The contracts and the row slots of a packed ledger, read straight off its bytes. Assumes nothing.
 use mathlib.Core.Path.{_≡_, refl, sym, ap, _∙_}
-use mathlib.Core.Bool.{Bool, true, false, not, cond, false≢true}
-use mathlib.Core.List.{List, map}
+use mathlib.Core.Bool.{Bool, true, false, cond, false≢true}
+use mathlib.Core.List.{List}
 use mathlib.Core.Option.{none, some}
 use Prim.Native.Nat.{ℕ, _+_, _*_, _≤_, _<_}
 use native.Mathlib.Omega.{arith}
 use lib.Dec.{eqb}
-use lib.ListN.{length, drop, getD}
-use Rattle.basics.specs.Tests.{every}
+use lib.ListN.{length, getD}
+use Rattle.limits.specs.Limits.{rowCount}
+use Rattle.basics.proofs.Tests.{either}
 use Rattle.records.specs.Pack.{size, WholeBytes}
-use Rattle.records.specs.Slots.{whole, recordFields, slotIn, slotOk, slots}
-use Rattle.records.specs.OneSlot.{slotNumbers, slotPart, slotAt, isTaken, recordIn}
+use Rattle.records.specs.Slots.{whole, recordFields, slotIn, slotOk}
+use Rattle.records.specs.OneSlot.{slotPart, slotAt, isTaken, recordIn}
 use Rattle.records.specs.Numbered.{numbered}
 use Rattle.records.proofs.OneSlot.{slot-holds, slots-pass, slots-fail}
 use Rattle.rates.specs.declared.Contract.{Contract}
 use Rattle.model.specs.Contracts.{contractIn, contractAt, isThere, isOpen}
 use Rattle.model.specs.Rules.{Rules}
-use Rattle.layout.specs.Layout.{Layout, rowCount, contractsFrom, rowsFrom, ledgerSize, contractSlots, contractsIn, contractTest}
+use Rattle.layout.specs.Layout.{Layout, contractsFrom, rowsFrom, ledgerSize, contractSlots, contractsIn, contractTest}
 use Rattle.layout.specs.Check.{contractsOk}
 use Rattle.layout.proofs.Lawful.{Lawful}
 
@@ -51,11 +52,7 @@ module _ {R : Rules} {L : Layout} (laws : Lawful R L) (b : List ℕ) (long : len
 
     pub contract-open : isTaken (L .contract) (slotPart (L .contract) (contractsFrom R L) b c) ≡ isOpen (contractsIn R L b) c
     unfolding isTaken isOpen slotIn slotAt
-    contract-open = sym (ap isThere contract-held ∙ go (eqb (getD (slotAt (L .contract) (contractsFrom R L) b c) 0 0) 0))
-      where
-        go : (z : Bool) → isThere (cond z none (some (L .contract .of (recordFields (L .contract) (slotAt (L .contract) (contractsFrom R L) b c))))) ≡ not z
-        go true = refl
-        go false = refl
+    contract-open = sym (ap isThere contract-held ∙ either (eqb (getD (slotAt (L .contract) (contractsFrom R L) b c) 0 0) 0) (λ z. rw z) (λ z. rw z))
 
     pub contract-read : isOpen (contractsIn R L b) c ≡ true → recordIn (L .contract) (slotPart (L .contract) (contractsFrom R L) b c) ≡ contractAt (contractsIn R L b) c
     unfolding isOpen contractAt recordIn slotIn slotAt

@@ -6,6 +6,7 @@ use Prim.Native.Nat.{ℕ, zero, suc, _+_, _*_, _≤_, _<_}
 use native.Mathlib.Nat.{sub-zero}
 use native.Mathlib.Omega.{arith}
 use lib.ListN.{length, set, replicate, length-append, length-replicate, replicate-append-replicate}
+use Rattle.limits.specs.Limits.{rowCount}
 use Rattle.basics.proofs.Tests.{no-eq, yes-eq}
 use Rattle.records.specs.Pack.{size, WholeBytes, pack}
 use Rattle.records.specs.Slots.{whole, slotBytes, arrayOut}
@@ -13,7 +14,6 @@ use Rattle.records.specs.Places.{places, inserted, removed}
 use Rattle.records.specs.Numbered.{listed}
 use Rattle.records.specs.Edits.{insertAt, removeAt, replaceAt, onPart}
 use Rattle.records.proofs.Pack.{length-pack}
-use Rattle.records.proofs.Slots.{length-arrayOut}
 use Rattle.records.proofs.Zeros.{free-array}
 use Rattle.records.proofs.Numbered.{length-listed, listed-set}
 use Rattle.records.proofs.Arrays.{replace-pieces, array-replace, places-insert, places-remove, places-replace}
@@ -22,7 +22,8 @@ use Rattle.model.specs.declared.Row.{Row}
 use Rattle.model.specs.Contracts.{Contracts, putContract}
 use Rattle.model.specs.Rules.{Rules}
 use Rattle.model.specs.Ledger.{Ledger, fresh, withRows}
-use Rattle.layout.specs.Layout.{Layout, rowCount, contractsFrom, rowsFrom, ledgerSize, headerBytes, contractBytes, rowBytes, bytesOf}
+use Rattle.layout.proofs.RoundTrips.{length-header, length-contracts}
+use Rattle.layout.specs.Layout.{Layout, contractsFrom, rowsFrom, ledgerSize, headerBytes, contractBytes, rowBytes, bytesOf}
 
 -- the contracts by number, with k under the number c
 listed-put : (n : ℕ) (cs : Contracts) (c : ℕ) (k : Contract) → listed n (putContract cs c k) ≡ set (listed n cs) c (some k)
@@ -39,20 +40,13 @@ unfolding places
 free-places n = ap (λ (m : ℕ). replicate m none) (sub-zero n)
 
 module _ (R : Rules) (L : Layout) where
-  length-header : (l : Ledger) → length (headerBytes R L l) ≡ contractsFrom R L
-  unfolding contractsFrom
-  length-header l = length-pack (L .header) (l .territory ∷ l .claims ∷ l .pence ∷ [])
-
   -- the bytes before the rows
   front : Ledger → List ℕ
   front l = headerBytes R L l ++ contractBytes R L l
 
   length-front : (l : Ledger) → length (front l) ≡ rowsFrom R L
   unfolding front rowsFrom
-  length-front l =
-      length-append (headerBytes R L l) (contractBytes R L l)
-      ∙ ap₂ (λ (m n : ℕ). m + n) (length-header l)
-      (length-arrayOut (L .contract) (listed (R .contractLimit) (l .contracts)) ∙ ap (λ (n : ℕ). n * size (whole (L .contract))) (length-listed (R .contractLimit) (l .contracts)))
+  length-front l = length-append (headerBytes R L l) (contractBytes R L l) ∙ ap₂ (λ (m n : ℕ). m + n) (length-header R L l) (length-contracts R L l)
 
   front-rows : (l : Ledger) (xs : List Row) → bytesOf R L (withRows l xs) ≡ front l ++ (arrayOut (L .row) (places rowCount xs) ++ [])
   unfolding bytesOf front
@@ -101,7 +95,7 @@ module _ (R : Rules) (L : Layout) where
   unfolding bytesOf
   contract-put l c k h =
       ap (λ (os : List (Option Contract)). headerBytes R L l ++ (arrayOut (L .contract) os ++ rowBytes R L l)) (listed-put (R .contractLimit) (l .contracts) c k)
-      ∙ sym (array-replace (L .contract) (headerBytes R L l) (rowBytes R L l) (listed (R .contractLimit) (l .contracts)) (some k) c (contractsFrom R L) (length-header l)
+      ∙ sym (array-replace (L .contract) (headerBytes R L l) (rowBytes R L l) (listed (R .contractLimit) (l .contracts)) (some k) c (contractsFrom R L) (length-header R L l)
       (omega (arith, length-listed (R .contractLimit) (l .contracts))))
 
   -- the header is written over another
@@ -115,7 +109,7 @@ module _ (R : Rules) (L : Layout) where
       ≡ replaceAt 0 (pack (L .header) (l .territory ∷ claims ∷ pence ∷ [])) (bytesOf R L l)
   unfolding bytesOf
   header-changed l claims pence =
-      header-written (l .territory ∷ claims ∷ pence ∷ []) (headerBytes R L l) (contractBytes R L l ++ rowBytes R L l) (length-header l)
+      header-written (l .territory ∷ claims ∷ pence ∷ []) (headerBytes R L l) (contractBytes R L l ++ rowBytes R L l) (length-header R L l)
 
   -- ---- a fresh ledger
 

@@ -1,10 +1,11 @@
 -- The well-formed test from its parts: the length, the header, the contracts and the rows. Assumes nothing.
-use mathlib.Core.Path.{_≡_, refl, sym, ap, _∙_}
+use mathlib.Core.Path.{_≡_, refl, sym, ap}
 use mathlib.Core.Bool.{Bool, true, false, not, cond, _&&_, _||_}
 use mathlib.Core.List.{List, [], _∷_, map}
 use Prim.Native.Nat.{ℕ}
 use lib.Dec.{leb, eqb}
 use lib.ListN.{length, drop}
+use Rattle.limits.specs.Limits.{rowCount, mostClaims}
 use Rattle.basics.specs.Tests.{every}
 use Rattle.basics.specs.Lists.{total}
 use Rattle.basics.proofs.Tests.{yes-eq, no-eq, and-left, and-right}
@@ -14,7 +15,7 @@ use Rattle.records.specs.Places.{held, inOrder}
 use Rattle.records.specs.Pairs.{everyPair}
 use Rattle.model.specs.Rules.{Rules}
 use Rattle.model.specs.Ledger.{due}
-use Rattle.layout.specs.Layout.{Layout, rowCount, contractsFrom, rowsFrom, ledgerSize, claimsIn, penceIn, contractTest, rowTest, contractsIn, rowSlots, comesBefore, wellFormed, ledgerOf}
+use Rattle.layout.specs.Layout.{Layout, rowsFrom, ledgerSize, claimsIn, penceIn, rowTest, contractsIn, rowSlots, comesBefore, wellFormed, ledgerOf}
 use Rattle.layout.proofs.LayoutLaws.{are-test}
 use Rattle.layout.specs.declared.Checked.the-variants.{Malformed, WellFormed}
 use Rattle.layout.specs.Check.{checkedOf, headerOk, contractsOk, rowsCheckedOf}
@@ -58,7 +59,7 @@ module _ (R : Rules) (L : Layout) (b : List ℕ) where
 
     -- the tests of claims and pence, and those of the contracts, the rows and their order
     abbrev claimsTested : Bool
-    claimsTested = leb (claimsIn R L b) 1000
+    claimsTested = leb (claimsIn R L b) mostClaims
 
     abbrev penceTested : Bool
     penceTested = not (eqb (claimsIn R L b) 0) || eqb (penceIn R L b) 0

@@ -6,19 +6,20 @@ use mathlib.Core.Option.{Option, none, some}
 use Prim.Native.Nat.{ℕ, _≤_, _<_}
 use native.Mathlib.Omega.{arith}
 use lib.Dec.{eqb}
-use lib.ListN.{length, drop, getD}
+use lib.ListN.{length, getD}
+use Rattle.limits.specs.Limits.{rowCount}
 use Rattle.records.specs.Slots.{slotIn}
 use Rattle.records.specs.Places.{places}
-use Rattle.records.proofs.Slots.{length-arrayIn}
 use Rattle.records.proofs.OneSlot.{slot-holds}
 use Rattle.records.proofs.Scan.{recordOf}
-use Rattle.records.proofs.Places.{length-held, place-held, places-held}
+use Rattle.records.proofs.Places.{place-held, places-held}
 use Rattle.model.specs.declared.Row.{Row}
 use Rattle.model.specs.Rules.{Rules}
-use Rattle.layout.specs.Layout.{Layout, rowCount, rowsFrom, ledgerSize, rowSlots, comesBefore, wellFormed, ledgerOf}
+use Rattle.layout.specs.Layout.{Layout, rowsFrom, ledgerSize, rowSlots, comesBefore, wellFormed, ledgerOf}
 use Rattle.layout.specs.Check.{rowSlotAt, rowAt}
 use Rattle.layout.proofs.LayoutLaws.{Tested, tested}
 use Rattle.layout.proofs.Lawful.{Lawful}
+use Rattle.layout.proofs.RoundTrips.{length-rowSlots, unpacked-well-formed}
 use Rattle.layout.proofs.Access.{row-whole, rows-inside}
 
 module _ {R : Rules} {L : Layout} (laws : Lawful R L) (b : List ℕ) (f : wellFormed R L b ≡ true) where
@@ -31,13 +32,8 @@ module _ {R : Rules} {L : Layout} (laws : Lawful R L) (b : List ℕ) (f : wellFo
   pub formed-length : length b ≡ ledgerSize R L
   formed-length = tests .long
 
-  slot-count : length (rowSlots R L b) ≡ rowCount
-  unfolding rowSlots
-  slot-count = length-arrayIn (L .row) rowCount (drop (rowsFrom R L) b)
-
   pub rows-most : length rows ≤ rowCount
-  unfolding ledgerOf
-  rows-most = omega (arith, length-held (rowSlots R L b), slot-count)
+  rows-most = unpacked-well-formed laws b tests .count
 
   slot-held : (i : ℕ) → i < rowCount → getD (rowSlots R L b) i none ≡ slotIn (L .row) (rowSlotAt R L b i)
   unfolding rowSlots
@@ -48,7 +44,7 @@ module _ {R : Rules} {L : Layout} (laws : Lawful R L) (b : List ℕ) (f : wellFo
   row-held i d h =
       let m : i < rowCount = omega (arith, rows-most) in
       let e : places rowCount rows ≡ rowSlots R L b =
-      ap (λ (n : ℕ). places n rows) (sym slot-count) ∙ places-held comesBefore (rowSlots R L b) (tests .order) in
+      ap (λ (n : ℕ). places n rows) (sym (length-rowSlots R L b)) ∙ places-held comesBefore (rowSlots R L b) (tests .order) in
       let s : slotIn (L .row) (rowSlotAt R L b i) ≡ some (getD rows i d) =
       sym (slot-held i m) ∙ ap (λ (os : List (Option Row)). getD os i none) (sym e) ∙ place-held rowCount rows d i h in
       go (eqb (getD (rowSlotAt R L b i) 0 0) 0) s

@@ -7,31 +7,32 @@ use native.Mathlib.Omega.{arith}
 use lib.Dec.{ltb, eqb}
 use lib.Pow.{areBytes}
 use lib.ListN.{length, drop}
+use Rattle.limits.specs.Limits.{rowCount, mostClaims}
 use Rattle.basics.specs.Tests.{every}
 use Rattle.basics.proofs.Tests.{either, and-left, and-right, and-yes, eq-yes, yes-eq, le-yes, yes-le, lt-yes, yes-lt, or-yes, every-at, every-all}
 use Rattle.fields.specs.Field.{AreBytes}
 use Rattle.fields.specs.Fields.{Fit}
 use Rattle.records.specs.Pack.{WholeBytes}
-use Rattle.records.specs.Slots.{slotOk, slots, KindOk}
+use Rattle.records.specs.Slots.{slotOk, slots, RecordLaws}
 use Rattle.records.specs.Places.{inOrder}
 use Rattle.records.specs.Pairs.{everyPair}
 use Rattle.rates.specs.declared.Contract.{Contract}
 use Rattle.model.specs.declared.Row.{Row}
-use Rattle.model.specs.Contracts.{Contracts, contractAt, isOpen}
+use Rattle.model.specs.Contracts.{Contracts, contractOf, isOpen}
 use Rattle.model.specs.Rules.{Rules, partOfDue}
 use Rattle.model.specs.WellFormed.{RowOk}
-use Rattle.layout.specs.Layout.{Layout, rowCount, rowTests, rowOk, comesBefore, contractsFrom, rowsFrom, ledgerSize, claimsIn, penceIn, contractsIn, rowSlots, contractTest, rowTest, wellFormedTests, wellFormed}
+use Rattle.layout.specs.Layout.{Layout, rowTests, rowOk, comesBefore, contractsFrom, rowsFrom, ledgerSize, claimsIn, penceIn, contractsIn, rowSlots, contractTest, rowTest, wellFormedTests, wellFormed}
 
 pub record LayoutLaws (R : Rules) (L : Layout) : Type 0 where
   -- the header's three fields hold what a well-formed ledger has, and no more
   pub aligned : WholeBytes (L .header)
   pub three : length (L .header) ≡ 3
-  pub fits : (t c p : ℕ) → t ≤ 1 → c ≤ 1000 → p < 2 ^ 47 → Fit (L .header) (t ∷ c ∷ p ∷ [])
+  pub fits : (t c p : ℕ) → t ≤ 1 → c ≤ mostClaims → p < 2 ^ 47 → Fit (L .header) (t ∷ c ∷ p ∷ [])
   pub narrow : (t c p : ℕ) → Fit (L .header) (t ∷ c ∷ p ∷ []) → (t ≤ 1) × (p < 2 ^ 47)
   -- the records are those of their kinds, and their tests are the rules'
-  pub contract : (t : ℕ) → KindOk (L .contract) (L .contractRanges t)
+  pub contract : (t : ℕ) → RecordLaws (L .contract) (L .contractRanges t)
   pub ranges : (t : ℕ) (k : Contract) → L .contractRanges t (L .contract .values k) ≡ R .contractOk t k
-  pub row : (cs : Contracts) → KindOk (L .row) (rowTest R L cs)
+  pub row : (cs : Contracts) → RecordLaws (L .row) (rowTest R L cs)
   pub row-values : (cs : Contracts) (x : Row) → RowOk R cs x → L .row .of (L .row .values x) ≡ x
 
 -- ---- the tests as facts
@@ -64,7 +65,7 @@ module _ (R : Rules) (cs : Contracts) (x : Row) (number : x .bill .contract < R 
   unfolding rowOk
   row-closed e = rw (yes-lt (x .bill .contract) (R .contractLimit) number, e)
 
-  module _ (opened : isOpen cs (x .bill .contract) ≡ true) (k : Contract) (read : k ≡ contractAt cs (x .bill .contract)) where
+  module _ (opened : isOpen cs (x .bill .contract) ≡ true) (k : Contract) (read : k ≡ contractOf cs (x .bill)) where
     pub row-outside : R .billOk k (x .bill) ≡ false → rowOk R cs x ≡ false
     unfolding rowOk
     row-outside e = rw (yes-lt (x .bill .contract) (R .contractLimit) number, opened, ← read, e)
@@ -88,7 +89,7 @@ no-pence-test c p f = either (eqb c 0) (λ e. rw e (yes-eq p 0 (f (eq-yes c 0 e)
 pub record Tested (R : Rules) (L : Layout) (b : List ℕ) : Type 0 where
   pub long : length b ≡ ledgerSize R L
   pub bytes : AreBytes b
-  pub claims : claimsIn R L b ≤ 1000
+  pub claims : claimsIn R L b ≤ mostClaims
   pub pence : claimsIn R L b ≡ 0 → penceIn R L b ≡ 0
   pub contracts : every (map (slotOk (L .contract) (contractTest R L b)) (slots (L .contract) (R .contractLimit) (drop (contractsFrom R L) b))) ≡ true
   pub rows : every (map (slotOk (L .row) (rowTest R L (contractsIn R L b))) (slots (L .row) rowCount (drop (rowsFrom R L) b))) ≡ true
@@ -102,7 +103,7 @@ module _ (R : Rules) (L : Layout) (b : List ℕ) where
       record {
         long = eq-yes (length b) (ledgerSize R L) (at 0);
         bytes = are-fact b (at 1);
-        claims = le-yes (claimsIn R L b) 1000 (at 2);
+        claims = le-yes (claimsIn R L b) mostClaims (at 2);
         pence = no-pence (claimsIn R L b) (penceIn R L b) (at 3);
         contracts = at 4;
         rows = at 5;
@@ -116,7 +117,7 @@ module _ (R : Rules) (L : Layout) (b : List ℕ) where
     (
       are-test b (s .bytes),
       (
-        yes-le (claimsIn R L b) 1000 (s .claims),
+        yes-le (claimsIn R L b) mostClaims (s .claims),
         (
           no-pence-test (claimsIn R L b) (penceIn R L b) (s .pence),
           (s .contracts, (s .rows, (s .order, tt))),

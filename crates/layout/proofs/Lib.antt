@@ -9,5 +9,6 @@ pub mod RowChecks
 pub mod CheckedParts
 pub mod HeldRows
 pub mod Machine
-pub mod PackedLedger
+pub mod PresentLayout
 pub mod Present
+pub mod Theorems

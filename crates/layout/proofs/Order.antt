@@ -1,10 +1,10 @@
 -- Rows that keep their spans: the order over all pairs in the paper's words is the order by contract and day as one number. Assumes nothing.
-use mathlib.Core.Path.{_≡_, refl, ap}
-use mathlib.Core.Bool.{Bool, true, false, _&&_, _||_}
+use mathlib.Core.Path.{_≡_, refl}
+use mathlib.Core.Bool.{true, false}
 use mathlib.Core.List.{List, [], _∷_, map}
 use Prim.Native.Nat.{_≤_}
 use native.Mathlib.Omega.{arith}
-use lib.Dec.{leb, ltb, eqb}
+use lib.Dec.{ltb, eqb}
 use Rattle.basics.specs.Tests.{every}
 use Rattle.basics.specs.Lists.{All}
 use Rattle.basics.proofs.Tests.{either, and-left, and-right, and-yes, eq-yes, yes-eq, lt-no, yes-lt, no-le, not-yes, no-not}
@@ -16,17 +16,6 @@ use Rattle.model.specs.WellFormed.{before, Apart}
 use Rattle.model.proofs.RowOrder.{Span, right-of}
 use Rattle.layout.specs.Layout.{comesBefore}
 
-or-left : (a b : Bool) → a ≡ true → a || b ≡ true
-or-left a b e = rw e
-
-or-right : (a b : Bool) → b ≡ true → a || b ≡ true
-or-right true b e = refl
-or-right false b e = e
-
-and-false : (a b : Bool) → (a ≡ true → b ≡ false) → a && b ≡ false
-and-false true b f = f refl
-and-false false b f = refl
-
 -- ---- of two rows
 
 pub comes-before : (x y : Row) → Span x → Span y → comesBefore x y ≡ true → before x y
@@ -36,18 +25,15 @@ comes-before x y p q e = right-of x y p q (not-yes _ (and-right (sortsAfter (y .
 module _ (x y : Row) (p : Span x) (q : Span y) (h : before x y) where
   sorted : sortsAfter (y .bill) (x .bill) ≡ true
   unfolding before sortsAfter
-  sorted = either (ltb (x .bill .contract) (y .bill .contract)) (λ c. or-left _ _ c)
-      (λ c.
+  sorted = either (ltb (x .bill .contract) (y .bill .contract)) (λ c. rw c) (λ c.
       let l : y .bill .contract ≤ x .bill .contract = lt-no (x .bill .contract) (y .bill .contract) c in
-      or-right (ltb (x .bill .contract) (y .bill .contract)) _ (and-yes _ _ (yes-eq (x .bill .contract) (y .bill .contract) (omega arith)) (yes-lt (x .bill .first) (y .bill .first) (omega arith))))
+      rw (c, yes-eq (x .bill .contract) (y .bill .contract) (omega arith)) (yes-lt (x .bill .first) (y .bill .first) (omega arith)))
 
   unshared : sharing (x .bill .contract) (x .bill .first) (x .bill .last) (y .bill) ≡ false
   unfolding before sharing
-  unshared = and-false (eqb (y .bill .contract) (x .bill .contract)) _
-      (λ c.
-      let k : y .bill .contract ≡ x .bill .contract = eq-yes (y .bill .contract) (x .bill .contract) c in
-      let d : leb (y .bill .first) (x .bill .last) ≡ false = no-le (y .bill .first) (x .bill .last) (omega arith) in
-      ap (λ (b : Bool). b && leb (x .bill .first) (y .bill .last)) d)
+  unshared = either (eqb (y .bill .contract) (x .bill .contract))
+      (λ c. let k : y .bill .contract ≡ x .bill .contract = eq-yes (y .bill .contract) (x .bill .contract) c in rw (c, no-le (y .bill .first) (x .bill .last) (omega arith)))
+      (λ c. rw c)
 
   pub before-comes : comesBefore x y ≡ true
   unfolding comesBefore

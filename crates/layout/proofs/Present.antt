@@ -1,26 +1,38 @@
--- The rules and the layout in force keep their laws. Assumes nothing.
+-- The rules and the layout in force keep their laws, and what follows of a well-formed ledger and of the machine. Assumes nothing.
 use mathlib.Core.Path.{_≡_, _∙_}
 use mathlib.Core.List.{List}
 use Prim.Native.Nat.{ℕ}
 use lib.ListN.{length}
-use Rattle.model.specs.declared.Answer.{Answer}
-use Rattle.model.specs.Calls.{Call}
+use Rattle.model.specs.WellFormed.{WellFormed}
+use Rattle.model.specs.History.{ledgerMachine}
+use Rattle.model.specs.Format.{FormatLaws}
+use Rattle.model.proofs.PresentRules.{present-rules-laws}
+use Rattle.model.proofs.Refinement.{Refines}
+use Rattle.model.proofs.BytesBalance.{bytes-refine}
+use Rattle.layout.specs.Layout.{format}
 use Rattle.layout.specs.Offsets.{ledgerLength}
-use Rattle.layout.specs.Present.{rules, layout, Formed}
+use Rattle.layout.specs.Present.{rules, layout, Formed, facts, bytes, machine}
 use Rattle.layout.proofs.Lawful.{Lawful}
 use Rattle.layout.proofs.HeldRows as HeldRows
-use Rattle.layout.proofs.Machine as Machine
-use Rattle.layout.proofs.PackedLedger.{packed, packed-size}
+use Rattle.layout.proofs.RoundTrips as RoundTrips
+use Rattle.layout.proofs.PresentLayout.{packed-offsets, present-layout-laws}
 
 pub present : Lawful rules layout
-present = packed
+present = record { rules = present-rules-laws; layout = present-layout-laws }
 
-pub formed-length : (b : List ℕ) → Formed b → length b ≡ ledgerLength
-formed-length b f = HeldRows.formed-length present b f ∙ packed-size
+pub format-laws : FormatLaws rules (format rules layout)
+format-laws = RoundTrips.format-laws present
 
--- what a check that found the ledger well formed says, and what a call answers and leaves
-abbrev pub Sound : List ℕ → (rows sum : ℕ) → Type 0
-Sound b rows sum = Machine.Sound rules layout b rows sum
+pub machine-refines : Refines machine (ledgerMachine rules)
+machine-refines = bytes-refine rules (present .rules) (format rules layout) format-laws
 
-abbrev pub Answers : List ℕ → Call → Answer → List ℕ → Type 0
-Answers b c a after = Machine.Answers rules layout b c a after
+-- of a well-formed ledger: its length, that its facts are well formed, and that they are its bytes when packed
+module _ (b : List ℕ) (f : Formed b) where
+  pub formed-length : length b ≡ ledgerLength
+  formed-length = HeldRows.formed-length present b f ∙ packed-offsets .1 .1
+
+  pub facts-kept : WellFormed rules (facts b)
+  facts-kept = format-laws .unpacked b f
+
+  pub repacked : bytes (facts b) ≡ b
+  repacked = RoundTrips.repacked present b f

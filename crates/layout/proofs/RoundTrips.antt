@@ -9,6 +9,7 @@ use Prim.Native.Nat.{ℕ, zero, suc, _+_, _-_, _*_, _^_, _≤_, _<_}
 use native.Mathlib.Omega.{arith}
 use lib.ListN.{length, take, drop, getD, length-append, length-drop, take-append-drop}
 use lib.Seq.{drop-at, take-all, drop-drop, length-take-le}
+use Rattle.limits.specs.Limits.{rowCount, mostClaims}
 use Rattle.basics.specs.Tests.{every}
 use Rattle.basics.specs.Lists.{All}
 use Rattle.basics.proofs.Tests.{and-left, and-right, and-yes}
@@ -17,7 +18,7 @@ use Rattle.fields.specs.Field.{AreBytes}
 use Rattle.fields.specs.Fields.{Fit}
 use Rattle.fields.proofs.Laws.{are-append, are-drop, are-take}
 use Rattle.records.specs.Pack.{size, pack, unpack}
-use Rattle.records.specs.Slots.{Kind, whole, passes, slotOk, slots, arrayIn, arrayOut}
+use Rattle.records.specs.Slots.{RecordLayout, whole, passes, slotOk, slots, arrayIn, arrayOut}
 use Rattle.records.specs.Places.{held, places, inOrder}
 use Rattle.records.specs.Numbered.{listed, numbered}
 use Rattle.records.specs.Pairs.{everyPair}
@@ -32,15 +33,16 @@ use Rattle.model.specs.Rules.{Rules}
 use Rattle.model.specs.Ledger.{Ledger}
 use Rattle.model.specs.WellFormed.{RowOk, WellFormed}
 use Rattle.model.specs.Format.{FormatLaws}
-use Rattle.model.proofs.RulesLaws.{RulesLaws}
 use Rattle.model.proofs.RowOrder.{Span}
-use Rattle.layout.specs.Layout.{Layout, rowCount, rowOk, comesBefore, contractsFrom, rowsFrom, ledgerSize, territoryIn, claimsIn, penceIn, contractSlots, contractsIn, rowSlots, contractTest, rowTest, wellFormed, ledgerOf, headerBytes, contractBytes, rowBytes, bytesOf, format}
+use Rattle.model.proofs.RowBounds.{row-span}
+use Rattle.layout.specs.Layout.{Layout, rowOk, comesBefore, contractsFrom, rowsFrom, ledgerSize, territoryIn, claimsIn, penceIn, contractSlots, contractsIn, rowSlots, contractTest, rowTest, wellFormed, ledgerOf, headerBytes, contractBytes, rowBytes, bytesOf, format}
 use Rattle.layout.proofs.Order.{pairs-apart, apart-pairs}
-use Rattle.layout.proofs.LayoutLaws.{LayoutLaws, row-facts, row-test, Tested, tested, tests-passed}
+use Rattle.layout.proofs.Lawful.{Lawful}
+use Rattle.layout.proofs.LayoutLaws.{row-facts, row-test, Tested, tested, tests-passed}
 
 -- ---- slots by number, and the records that pass
 
-module _ {A : Type 0} (k : Kind A) (test : List ℕ → Bool) where
+module _ {A : Type 0} (k : RecordLayout A) (test : List ℕ → Bool) where
   -- what each record passes, its slot passes
   listed-passes : (n : ℕ) (f : ℕ → Option A) → ((i : ℕ) (a : A) → f i ≡ some a → test (k .values a) ≡ true) → every (map (passes k test) (listed n f)) ≡ true
   listed-passes zero f h = refl
@@ -93,26 +95,33 @@ listed-elements zero (x ∷ v) e = let z : ⊥ = omega arith in absurd z
 listed-elements (suc n) [] e = let z : ⊥ = omega arith in absurd z
 listed-elements (suc n) (x ∷ v) e = ap (λ (l : List ℕ). x ∷ l) (listed-elements n v (omega arith))
 
-module _ (R : Rules) (rules : RulesLaws R) (L : Layout) (laws : LayoutLaws R L) where
-  row-span : (cs : Contracts) (x : Row) → RowOk R cs x → Span x
-  row-span cs x o = let d = rules .days _ (x .bill) (o .ranges) in record { days = d .0; short = d .1 }
+-- how long the parts are, whatever the facts or the bytes
+module _ (R : Rules) (L : Layout) where
+  pub length-header : (l : Ledger) → length (headerBytes R L l) ≡ contractsFrom R L
+  unfolding contractsFrom
+  length-header l = length-pack (L .header) (l .territory ∷ l .claims ∷ l .pence ∷ [])
 
+  pub length-contracts : (l : Ledger) → length (contractBytes R L l) ≡ R .contractLimit * size (whole (L .contract))
+  length-contracts l = length-arrayOut (L .contract) (listed (R .contractLimit) (l .contracts)) ∙ ap (λ (n : ℕ). n * size (whole (L .contract))) (length-listed (R .contractLimit) (l .contracts))
+
+  pub length-rowSlots : (b : List ℕ) → length (rowSlots R L b) ≡ rowCount
+  unfolding rowSlots
+  length-rowSlots b = length-arrayIn (L .row) rowCount (drop (rowsFrom R L) b)
+
+  length-contractSlots : (b : List ℕ) → length (contractSlots R L b) ≡ R .contractLimit
+  unfolding contractSlots
+  length-contractSlots b = length-arrayIn (L .contract) (R .contractLimit) (drop (contractsFrom R L) b)
+
+module _ {R : Rules} {L : Layout} (laws : Lawful R L) where
   -- a row's facts and its numbers' test
   row-passes : (cs : Contracts) (x : Row) → RowOk R cs x → rowTest R L cs (L .row .values x) ≡ true
-  row-passes cs x o = ap (rowOk R cs) (laws .row-values cs x o) ∙ row-test R cs x o
+  row-passes cs x o = ap (rowOk R cs) (laws .layout .row-values cs x o) ∙ row-test R cs x o
 
   row-passed : (cs : Contracts) (x : Row) → rowTest R L cs (L .row .values x) ≡ true → RowOk R cs x
-  row-passed cs x e = row-facts R cs x (sym (ap (rowOk R cs) (laws .row cs .of-values x e)) ∙ e)
+  row-passed cs x e = row-facts R cs x (sym (ap (rowOk R cs) (laws .layout .row cs .of-values x e)) ∙ e)
 
   -- ---- the bytes of well-formed facts
   module _ (l : Ledger) (f : WellFormed R l) where
-    length-header : length (headerBytes R L l) ≡ contractsFrom R L
-    unfolding contractsFrom
-    length-header = length-pack (L .header) (l .territory ∷ l .claims ∷ l .pence ∷ [])
-
-    length-contracts : length (contractBytes R L l) ≡ R .contractLimit * size (whole (L .contract))
-    length-contracts = length-arrayOut (L .contract) (listed (R .contractLimit) (l .contracts)) ∙ ap (λ (n : ℕ). n * size (whole (L .contract))) (length-listed (R .contractLimit) (l .contracts))
-
     length-rows : length (rowBytes R L l) ≡ rowCount * size (whole (L .row))
     length-rows = length-arrayOut (L .row) (places rowCount (l .rows)) ∙ ap (λ (n : ℕ). n * size (whole (L .row))) (length-places rowCount (l .rows) (f .count))
 
@@ -120,7 +129,7 @@ module _ (R : Rules) (rules : RulesLaws R) (L : Layout) (laws : LayoutLaws R L) 
     unfolding bytesOf ledgerSize rowsFrom
     length-bytesOf =
         length-append (headerBytes R L l) (contractBytes R L l ++ rowBytes R L l) ∙ ap (λ (n : ℕ). length (headerBytes R L l) + n) (length-append (contractBytes R L l) (rowBytes R L l))
-        ∙ omega (arith, length-header, length-contracts, length-rows)
+        ∙ omega (arith, length-header R L l, length-contracts R L l, length-rows)
 
     are-bytesOf : AreBytes (bytesOf R L l)
     unfolding bytesOf
@@ -130,19 +139,19 @@ module _ (R : Rules) (rules : RulesLaws R) (L : Layout) (laws : LayoutLaws R L) 
 
     after-header : drop (contractsFrom R L) (bytesOf R L l) ≡ contractBytes R L l ++ rowBytes R L l
     unfolding bytesOf
-    after-header = drop-at (headerBytes R L l) (contractBytes R L l ++ rowBytes R L l) (contractsFrom R L) length-header
+    after-header = drop-at (headerBytes R L l) (contractBytes R L l ++ rowBytes R L l) (contractsFrom R L) (length-header R L l)
 
     after-contracts : drop (rowsFrom R L) (bytesOf R L l) ≡ rowBytes R L l ++ []
     unfolding rowsFrom
     after-contracts =
         sym (drop-drop (R .contractLimit * size (whole (L .contract))) (contractsFrom R L) (bytesOf R L l)) ∙ ap (drop (R .contractLimit * size (whole (L .contract)))) after-header
-        ∙ drop-at (contractBytes R L l) (rowBytes R L l) (R .contractLimit * size (whole (L .contract))) length-contracts ∙ sym (append-nil (rowBytes R L l))
+        ∙ drop-at (contractBytes R L l) (rowBytes R L l) (R .contractLimit * size (whole (L .contract))) (length-contracts R L l) ∙ sym (append-nil (rowBytes R L l))
 
     header-back : unpack (L .header) (bytesOf R L l) ≡ l .territory ∷ l .claims ∷ l .pence ∷ []
     unfolding bytesOf contractsFrom
     header-back =
-        unpack-append (headerBytes R L l) (contractBytes R L l ++ rowBytes R L l) (L .header) (laws .aligned) length-header
-        ∙ unpack-pack (L .header) (l .territory ∷ l .claims ∷ l .pence ∷ []) (laws .aligned) (laws .fits (l .territory) (l .claims) (l .pence) (f .territory) (f .claims) (f .pence))
+        unpack-append (headerBytes R L l) (contractBytes R L l ++ rowBytes R L l) (L .header) (laws .layout .aligned) (length-header R L l)
+        ∙ unpack-pack (L .header) (l .territory ∷ l .claims ∷ l .pence ∷ []) (laws .layout .aligned) (laws .layout .fits (l .territory) (l .claims) (l .pence) (f .territory) (f .claims) (f .pence))
 
     territory-back : territoryIn R L (bytesOf R L l) ≡ l .territory
     unfolding territoryIn
@@ -158,7 +167,7 @@ module _ (R : Rules) (rules : RulesLaws R) (L : Layout) (laws : LayoutLaws R L) 
 
     contracts-pass : every (map (passes (L .contract) (L .contractRanges (l .territory))) (listed (R .contractLimit) (l .contracts))) ≡ true
     contracts-pass = listed-passes (L .contract) (L .contractRanges (l .territory)) (R .contractLimit) (l .contracts)
-        (λ c k e. let s = slot-contract (l .contracts) c k e in laws .ranges (l .territory) k ∙ subst (λ (j : Contract). R .contractOk (l .territory) j ≡ true) (s .1) (f .contracts c (s .0)))
+        (λ c k e. let s = slot-contract (l .contracts) c k e in laws .layout .ranges (l .territory) k ∙ subst (λ (j : Contract). R .contractOk (l .territory) j ≡ true) (s .1) (f .contracts c (s .0)))
 
     rows-pass : every (map (passes (L .row) (rowTest R L (l .contracts))) (places rowCount (l .rows))) ≡ true
     rows-pass = places-pass (L .row) (rowTest R L (l .contracts)) rowCount (l .rows) (all-map (RowOk R (l .contracts)) _ (row-passes (l .contracts)) (l .rows) (f .rows))
@@ -168,14 +177,14 @@ module _ (R : Rules) (rules : RulesLaws R) (L : Layout) (laws : LayoutLaws R L) 
     contracts-back =
         ap numbered
         (ap (arrayIn (L .contract) (R .contractLimit)) after-header
-        ∙ array-in-out (L .contract) (L .contractRanges (l .territory)) (laws .contract (l .territory)) (R .contractLimit) (listed (R .contractLimit) (l .contracts)) (rowBytes R L l)
+        ∙ array-in-out (L .contract) (L .contractRanges (l .territory)) (laws .layout .contract (l .territory)) (R .contractLimit) (listed (R .contractLimit) (l .contracts)) (rowBytes R L l)
         (length-listed (R .contractLimit) (l .contracts)) contracts-pass)
         ∙ fun-ext (numbered-listed (R .contractLimit) (l .contracts) (f .numbers))
 
     rows-back : rowSlots R L (bytesOf R L l) ≡ places rowCount (l .rows)
     unfolding rowSlots
     rows-back = ap (arrayIn (L .row) rowCount) after-contracts
-        ∙ array-in-out (L .row) (rowTest R L (l .contracts)) (laws .row (l .contracts)) rowCount (places rowCount (l .rows)) [] (length-places rowCount (l .rows) (f .count)) rows-pass
+        ∙ array-in-out (L .row) (rowTest R L (l .contracts)) (laws .layout .row (l .contracts)) rowCount (places rowCount (l .rows)) [] (length-places rowCount (l .rows) (f .count)) rows-pass
 
     -- packing then unpacking gives the facts
     pub unpacked-packed : ledgerOf R L (bytesOf R L l) ≡ l
@@ -191,54 +200,46 @@ module _ (R : Rules) (rules : RulesLaws R) (L : Layout) (laws : LayoutLaws R L) 
     contracts-tested : every (map (slotOk (L .contract) (contractTest R L (bytesOf R L l))) (slots (L .contract) (R .contractLimit) (drop (contractsFrom R L) (bytesOf R L l)))) ≡ true
     contracts-tested =
         ap₂ (λ (t : ℕ) (d : List ℕ). every (map (slotOk (L .contract) (L .contractRanges t)) (slots (L .contract) (R .contractLimit) d))) territory-back after-header
-        ∙ ok-arrayOut (L .contract) (L .contractRanges (l .territory)) (laws .contract (l .territory)) (R .contractLimit) (listed (R .contractLimit) (l .contracts)) (rowBytes R L l)
+        ∙ ok-arrayOut (L .contract) (L .contractRanges (l .territory)) (laws .layout .contract (l .territory)) (R .contractLimit) (listed (R .contractLimit) (l .contracts)) (rowBytes R L l)
         (length-listed (R .contractLimit) (l .contracts)) contracts-pass
 
     rows-tested : every (map (slotOk (L .row) (rowTest R L (contractsIn R L (bytesOf R L l)))) (slots (L .row) rowCount (drop (rowsFrom R L) (bytesOf R L l)))) ≡ true
     rows-tested =
         ap₂ (λ (cs : Contracts) (d : List ℕ). every (map (slotOk (L .row) (rowTest R L cs)) (slots (L .row) rowCount d))) contracts-back after-contracts
-        ∙ ok-arrayOut (L .row) (rowTest R L (l .contracts)) (laws .row (l .contracts)) rowCount (places rowCount (l .rows)) [] (length-places rowCount (l .rows) (f .count)) rows-pass
+        ∙ ok-arrayOut (L .row) (rowTest R L (l .contracts)) (laws .layout .row (l .contracts)) rowCount (places rowCount (l .rows)) [] (length-places rowCount (l .rows) (f .count)) rows-pass
 
     -- the bytes of well-formed facts are well formed
     pub packed-well-formed : wellFormed R L (bytesOf R L l) ≡ true
     packed-well-formed = tests-passed R L (bytesOf R L l) (record {
       long = length-bytesOf;
       bytes = are-bytesOf;
-      claims = subst (λ (n : ℕ). n ≤ 1000) (sym claims-back) (f .claims);
+      claims = subst (λ (n : ℕ). n ≤ mostClaims) (sym claims-back) (f .claims);
       pence = λ z. pence-back ∙ f .unclaimed (sym claims-back ∙ z);
       contracts = contracts-tested;
       rows = rows-tested;
       order = ap (everyPair (inOrder comesBefore)) rows-back
-          ∙ pairs-places comesBefore rowCount (l .rows) (apart-pairs (l .rows) (all-map (RowOk R (l .contracts)) Span (row-span (l .contracts)) (l .rows) (f .rows)) (f .apart));
+          ∙ pairs-places comesBefore rowCount (l .rows) (apart-pairs (l .rows) (all-map (RowOk R (l .contracts)) Span (λ x o. row-span (laws .rules) o) (l .rows) (f .rows)) (f .apart));
     })
 
   -- ---- the facts of well-formed bytes
   module _ (b : List ℕ) (s : Tested R L b) where
     header-values : territoryIn R L b ∷ claimsIn R L b ∷ penceIn R L b ∷ [] ≡ unpack (L .header) b
     unfolding territoryIn claimsIn penceIn
-    header-values = listed-elements 3 (unpack (L .header) b) (fit-length (L .header) (unpack (L .header) b) (fit-unpack (L .header) b) ∙ laws .three)
+    header-values = listed-elements 3 (unpack (L .header) b) (fit-length (L .header) (unpack (L .header) b) (fit-unpack (L .header) b) ∙ laws .layout .three)
 
     header-narrow : (territoryIn R L b ≤ 1) × (penceIn R L b < 2 ^ 47)
-    header-narrow = laws .narrow (territoryIn R L b) (claimsIn R L b) (penceIn R L b) (subst (Fit (L .header)) (sym header-values) (fit-unpack (L .header) b))
+    header-narrow = laws .layout .narrow (territoryIn R L b) (claimsIn R L b) (penceIn R L b) (subst (Fit (L .header)) (sym header-values) (fit-unpack (L .header) b))
 
     contracts-passed : every (map (passes (L .contract) (contractTest R L b)) (contractSlots R L b)) ≡ true
     unfolding contractSlots
-    contracts-passed = passes-arrayIn (L .contract) (contractTest R L b) (laws .contract (territoryIn R L b)) (R .contractLimit) (drop (contractsFrom R L) b) (s .contracts)
+    contracts-passed = passes-arrayIn (L .contract) (contractTest R L b) (laws .layout .contract (territoryIn R L b)) (R .contractLimit) (drop (contractsFrom R L) b) (s .contracts)
 
     rows-passed : every (map (passes (L .row) (rowTest R L (contractsIn R L b))) (rowSlots R L b)) ≡ true
     unfolding rowSlots
-    rows-passed = passes-arrayIn (L .row) (rowTest R L (contractsIn R L b)) (laws .row (contractsIn R L b)) rowCount (drop (rowsFrom R L) b) (s .rows)
+    rows-passed = passes-arrayIn (L .row) (rowTest R L (contractsIn R L b)) (laws .layout .row (contractsIn R L b)) rowCount (drop (rowsFrom R L) b) (s .rows)
 
     held-rows : All (RowOk R (contractsIn R L b)) (held (rowSlots R L b))
     held-rows = all-map _ (RowOk R (contractsIn R L b)) (row-passed (contractsIn R L b)) (held (rowSlots R L b)) (held-pass (L .row) (rowTest R L (contractsIn R L b)) (rowSlots R L b) rows-passed)
-
-    length-rowSlots : length (rowSlots R L b) ≡ rowCount
-    unfolding rowSlots
-    length-rowSlots = length-arrayIn (L .row) rowCount (drop (rowsFrom R L) b)
-
-    length-contractSlots : length (contractSlots R L b) ≡ R .contractLimit
-    unfolding contractSlots
-    length-contractSlots = length-arrayIn (L .contract) (R .contractLimit) (drop (contractsFrom R L) b)
 
     -- the facts of well-formed bytes are well formed
     pub unpacked-well-formed : WellFormed R (ledgerOf R L b)
@@ -248,12 +249,12 @@ module _ (R : Rules) (rules : RulesLaws R) (L : Layout) (laws : LayoutLaws R L) 
       claims = s .claims;
       pence = header-narrow .1;
       unclaimed = s .pence;
-      numbers = λ c h. numbered-beyond (contractSlots R L b) c (omega (arith, length-contractSlots));
-      contracts = λ c e. sym (laws .ranges (territoryIn R L b) (contractAt (contractsIn R L b) c))
+      numbers = λ c h. numbered-beyond (contractSlots R L b) c (omega (arith, length-contractSlots R L b));
+      contracts = λ c e. sym (laws .layout .ranges (territoryIn R L b) (contractAt (contractsIn R L b) c))
           ∙ numbered-passes (L .contract) (contractTest R L b) (contractSlots R L b) contracts-passed c (contractAt (contractsIn R L b) c) (open-contract (contractsIn R L b) c e);
-      count = omega (arith, length-held (rowSlots R L b), length-rowSlots);
+      count = omega (arith, length-held (rowSlots R L b), length-rowSlots R L b);
       rows = held-rows;
-      apart = pairs-apart (held (rowSlots R L b)) (all-map (RowOk R (contractsIn R L b)) Span (row-span (contractsIn R L b)) (held (rowSlots R L b)) held-rows)
+      apart = pairs-apart (held (rowSlots R L b)) (all-map (RowOk R (contractsIn R L b)) Span (λ x o. row-span (laws .rules) o) (held (rowSlots R L b)) held-rows)
           (pairs-held comesBefore (rowSlots R L b) (s .order));
     }
 
@@ -265,21 +266,21 @@ module _ (R : Rules) (rules : RulesLaws R) (L : Layout) (laws : LayoutLaws R L) 
     unfolding ledgerOf contractsFrom
     header-again =
         ap (pack (L .header)) (header-values ∙ sym (ap (unpack (L .header)) (take-append-drop (size (L .header)) b))
-        ∙ unpack-append (take (size (L .header)) b) (drop (size (L .header)) b) (L .header) (laws .aligned) (length-take-le (size (L .header)) b (omega (arith, all-of-it))))
-        ∙ pack-unpack (L .header) (take (size (L .header)) b) (laws .aligned) (are-take (size (L .header)) b (s .bytes)) (length-take-le (size (L .header)) b (omega (arith, all-of-it)))
+        ∙ unpack-append (take (size (L .header)) b) (drop (size (L .header)) b) (L .header) (laws .layout .aligned) (length-take-le (size (L .header)) b (omega (arith, all-of-it))))
+        ∙ pack-unpack (L .header) (take (size (L .header)) b) (laws .layout .aligned) (are-take (size (L .header)) b (s .bytes)) (length-take-le (size (L .header)) b (omega (arith, all-of-it)))
 
     contracts-again : contractBytes R L (ledgerOf R L b) ≡ take (R .contractLimit * size (whole (L .contract))) (drop (contractsFrom R L) b)
     unfolding ledgerOf contractSlots
-    contracts-again = ap (arrayOut (L .contract)) (listed-numbered (R .contractLimit) (contractSlots R L b) length-contractSlots)
-        ∙ array-out-in (L .contract) (contractTest R L b) (laws .contract (territoryIn R L b)) (R .contractLimit) (drop (contractsFrom R L) b)
+    contracts-again = ap (arrayOut (L .contract)) (listed-numbered (R .contractLimit) (contractSlots R L b) (length-contractSlots R L b))
+        ∙ array-out-in (L .contract) (contractTest R L b) (laws .layout .contract (territoryIn R L b)) (R .contractLimit) (drop (contractsFrom R L) b)
         (omega (arith, all-of-it, length-drop (contractsFrom R L) b)) (are-drop (contractsFrom R L) b (s .bytes)) (s .contracts)
 
     rows-again : rowBytes R L (ledgerOf R L b) ≡ drop (rowsFrom R L) b
     unfolding ledgerOf rowSlots rowsFrom
     rows-again =
-        ap (λ (n : ℕ). arrayOut (L .row) (places n (held (rowSlots R L b)))) (sym length-rowSlots)
+        ap (λ (n : ℕ). arrayOut (L .row) (places n (held (rowSlots R L b)))) (sym (length-rowSlots R L b))
         ∙ ap (arrayOut (L .row)) (places-held comesBefore (rowSlots R L b) (s .order))
-        ∙ array-out-in (L .row) (rowTest R L (contractsIn R L b)) (laws .row (contractsIn R L b)) rowCount (drop (rowsFrom R L) b)
+        ∙ array-out-in (L .row) (rowTest R L (contractsIn R L b)) (laws .layout .row (contractsIn R L b)) rowCount (drop (rowsFrom R L) b)
         (omega (arith, all-of-it, length-drop (rowsFrom R L) b)) (are-drop (rowsFrom R L) b (s .bytes)) (s .rows)
         ∙ take-all (rowCount * size (whole (L .row))) (drop (rowsFrom R L) b) (omega (arith, all-of-it, length-drop (rowsFrom R L) b))
 

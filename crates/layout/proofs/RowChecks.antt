@@ -1,16 +1,17 @@
 -- What the check of one row slot says, and each turn of the pass over the rows, from what is still to be found to what is found.
 -- Assumes nothing.
-use mathlib.Core.Path.{_≡_, refl, sym, ap, ap₂, _∙_}
-use mathlib.Core.Bool.{Bool, true, false, cond, _&&_}
+use mathlib.Core.Path.{_≡_, refl, sym, ap, ap₂, _∙_, subst}
+use mathlib.Core.Bool.{Bool, true, false, not, cond, _&&_}
 use mathlib.Core.List.{List, [], _∷_, map}
 use Prim.Native.Nat.{ℕ, suc, _+_, _-_, _*_, _≤_, _<_}
 use native.Mathlib.Omega.{arith}
 use lib.Dec.{leb, eqb}
 use lib.ListN.{length, drop, getD}
 use lib.Seq.{drop-length}
+use Rattle.limits.specs.Limits.{rowCount, dayValues}
 use Rattle.basics.specs.Tests.{every}
 use Rattle.basics.specs.Lists.{total}
-use Rattle.basics.proofs.Tests.{eq-yes, le-yes, yes-le, no-le, and-left}
+use Rattle.basics.proofs.Tests.{eq-yes, le-yes, yes-le, no-le, and-left, not-yes, not-no}
 use Rattle.fields.specs.Field.{AreBytes}
 use Rattle.records.specs.Pack.{size}
 use Rattle.records.specs.Slots.{whole, allZero, slotIn, slotOk, slots, arrayIn}
@@ -19,16 +20,19 @@ use Rattle.records.specs.Edits.{zeroAt}
 use Rattle.records.proofs.Slots.{length-slots}
 use Rattle.records.proofs.OneSlot.{slots-next, zero-rest}
 use Rattle.records.proofs.Scan.{recordOf, Keyed, bool-same, test, held-passes, scan-exactly, found, found-end, found-free, found-trailing, found-bad, found-good}
+use Rattle.rates.proofs.WithinCaps.{highestAmount}
 use Rattle.model.specs.declared.Row.{Row}
 use Rattle.model.specs.Contracts.{Contracts}
-use Rattle.model.specs.Rules.{Rules, partOfDue}
+use Rattle.model.specs.Rules.{Rules}
 use Rattle.model.specs.WellFormed.{before}
 use Rattle.model.proofs.RowOrder.{Span}
-use Rattle.layout.specs.Layout.{Layout, rowCount, rowOk, comesBefore, rowsFrom, ledgerSize, contractsIn, rowSlots}
+use Rattle.model.proofs.RowBounds.{row-span, amount-low}
+use Rattle.layout.specs.Layout.{Layout, rowOk, comesBefore, rowsFrom, ledgerSize, contractsIn, rowSlots}
 use Rattle.layout.specs.declared.Checked.{Checked}
 use Rattle.layout.specs.declared.Checked.the-variants.{Malformed, WellFormed}
+use Rattle.layout.specs.declared.RowCheck.{RowCheck}
 use Rattle.layout.specs.declared.RowCheck.the-variants.{Free, Bad, Good}
-use Rattle.layout.specs.Check.{firstKey, nextKey, rowSlotAt, rowCheckOf, rowsCheckedOf}
+use Rattle.layout.specs.Check.{firstKey, nextKey, rowSlotAt, heldCheckOf, rowCheckOf, rowsCheckedOf}
 use Rattle.layout.proofs.LayoutLaws.{row-facts}
 use Rattle.layout.proofs.Order.{comes-before, before-comes}
 use Rattle.layout.proofs.Lawful.{Lawful}
@@ -41,7 +45,7 @@ passed R L cs = found (L .row) (rowOk R cs) firstKey nextKey (λ x. x .amount) M
 -- the pass at row i: what is found from there on is what is to be found, and the amounts so far are those of i bills
 pub record Passing (R : Rules) (L : Layout) (b : List ℕ) (i least due : ℕ) : Type 0 where
   pub place : i ≤ rowCount
-  pub low : due ≤ i * 1000000000000000
+  pub low : due ≤ i * highestAmount
   rest : passed R L (contractsIn R L b) least i due (drop i (slots (L .row) rowCount (drop (rowsFrom R L) b))) ≡ rowsCheckedOf R L b
 
 pub record GoodRow (R : Rules) (L : Layout) (cs : Contracts) (least : ℕ) (v : List ℕ) (next amount : ℕ) : Type 0 where
@@ -49,6 +53,25 @@ pub record GoodRow (R : Rules) (L : Layout) (cs : Contracts) (least : ℕ) (v : 
   pub passes : test (L .row) (rowOk R cs) v && leb least (firstKey (recordOf (L .row) v)) ≡ true
   pub next-is : next ≡ nextKey (recordOf (L .row) v)
   pub amount-is : amount ≡ recordOf (L .row) v .amount
+
+-- ---- one row
+
+module _ (R : Rules) (cs : Contracts) (least : ℕ) (x : Row) (r : Bool) (e : r ≡ rowOk R cs x) where
+  pub held-bad : not r ≡ true → Bad ≡ heldCheckOf R cs least x
+  unfolding heldCheckOf
+  held-bad f = let g : rowOk R cs x ≡ false = sym e ∙ not-yes r f in rw g
+
+  module _ (f : not r ≡ false) (key : ℕ) (k : key ≡ firstKey x) where
+    passing : rowOk R cs x ≡ true
+    passing = sym e ∙ not-no r f
+
+    pub held-early : key < least → Bad ≡ heldCheckOf R cs least x
+    unfolding heldCheckOf
+    held-early h = rw (passing, no-le least (firstKey x) (omega arith))
+
+    pub held-good : least ≤ key → (end : ℕ) → end ≡ x .bill .contract * dayValues + x .bill .last → Good (end + 1) (x .amount) ≡ heldCheckOf R cs least x
+    unfolding heldCheckOf
+    held-good h end n = rw (passing, yes-le least (firstKey x) (omega arith)) (ap (λ (m : ℕ). Good (m + 1) (x .amount)) n)
 
 module _ {R : Rules} {L : Layout} (laws : Lawful R L) where
   -- ---- one slot
@@ -59,76 +82,51 @@ module _ {R : Rules} {L : Layout} (laws : Lawful R L) where
     check-free e = rw e
 
     module _ (taken : eqb (getD v 0 0) 0 ≡ false) where
-      -- bits that must stay zero are not
-      pub check-padding : allZero (drop (suc (length (L .row .widths))) v) ≡ false → Bad ≡ rowCheckOf R L cs least v
-      unfolding rowCheckOf slotOk
-      check-padding e = rw (taken, e)
+      -- the bits that must stay zero are, so that the row decides
+      pub check-row : allZero (drop (suc (length (L .row .widths))) v) ≡ true → (r : RowCheck) → r ≡ heldCheckOf R cs least (recordOf (L .row) v) → r ≡ rowCheckOf R L cs least v
+      unfolding rowCheckOf
+      check-row e r h = rw (taken, e) h
 
-      -- a held slot's test, by its zeros and its row
-      module _ (zeros : allZero (drop (suc (length (L .row .widths))) v) ≡ true) (x : Row) (row : x ≡ recordOf (L .row) v) where
-        pub check-bad : rowOk R cs x ≡ false → Bad ≡ rowCheckOf R L cs least v
-        unfolding rowCheckOf slotOk
-        check-bad e = let f : rowOk R cs (recordOf (L .row) v) ≡ false = ap (rowOk R cs) (sym row) ∙ e in rw (taken, zeros, f)
+    -- what each finding says
+    abbrev passes : Bool
+    passes = test (L .row) (rowOk R cs) v && leb least (firstKey (recordOf (L .row) v))
 
-        pub check-early : rowOk R cs x ≡ true → firstKey x < least → Bad ≡ rowCheckOf R L cs least v
-        unfolding rowCheckOf slotOk
-        check-early e h =
-            let f : rowOk R cs (recordOf (L .row) v) ≡ true = ap (rowOk R cs) (sym row) ∙ e in
-            let g : leb least (firstKey (recordOf (L .row) v)) ≡ false = ap (λ (y : Row). leb least (firstKey y)) (sym row) ∙ no-le least (firstKey x) h in
-            rw (taken, zeros, f, g)
+    abbrev Says : RowCheck → Type 0
+    Says Free = getD v 0 0 ≡ 0
+    Says Bad = (eqb (getD v 0 0) 0 ≡ false) × (passes ≡ false)
+    Says (Good next amount) = GoodRow R L cs least v next amount
 
-        pub check-good : rowOk R cs x ≡ true → least ≤ firstKey x → Good (nextKey x) (x .amount) ≡ rowCheckOf R L cs least v
-        unfolding rowCheckOf slotOk
-        check-good e h =
-            let f : rowOk R cs (recordOf (L .row) v) ≡ true = ap (rowOk R cs) (sym row) ∙ e in
-            let g : leb least (firstKey (recordOf (L .row) v)) ≡ true = ap (λ (y : Row). leb least (firstKey y)) (sym row) ∙ yes-le least (firstKey x) h in
-            rw (taken, zeros, f, g) (ap (λ (y : Row). Good (nextKey y) (y .amount)) row)
-
-    pub free-row : Free ≡ rowCheckOf R L cs least v → getD v 0 0 ≡ 0
-    unfolding rowCheckOf
-    free-row e = go (eqb (getD v 0 0) 0) refl (test (L .row) (rowOk R cs) v && leb least (firstKey (recordOf (L .row) v))) e
+    pub check-says : {r : RowCheck} → r ≡ rowCheckOf R L cs least v → Says r
+    unfolding rowCheckOf slotOk
+    check-says {r} e = subst Says (sym e) (go (eqb (getD v 0 0) 0) refl (allZero (drop (suc (length (L .row .widths))) v)) refl (rowOk R cs x) (leb least (firstKey x)) refl refl)
       where
-        go : (f : Bool) → eqb (getD v 0 0) 0 ≡ f → (p : Bool) → Free ≡ cond f Free (cond p (Good (nextKey (recordOf (L .row) v)) (recordOf (L .row) v .amount)) Bad) → getD v 0 0 ≡ 0
-        go true z p h = eq-yes (getD v 0 0) 0 z
-        go false z true h = let n : _≡_ {A = ℕ} 0 1 = cc in let y : ⊥ = omega arith in absurd y
-        go false z false h = let n : _≡_ {A = ℕ} 0 1 = cc in let y : ⊥ = omega arith in absurd y
+        x : Row
+        x = recordOf (L .row) v
 
-    pub bad-row : Bad ≡ rowCheckOf R L cs least v → (eqb (getD v 0 0) 0 ≡ false) × (test (L .row) (rowOk R cs) v && leb least (firstKey (recordOf (L .row) v)) ≡ false)
-    unfolding rowCheckOf
-    bad-row e = go (eqb (getD v 0 0) 0) refl (test (L .row) (rowOk R cs) v && leb least (firstKey (recordOf (L .row) v))) refl e
-      where
-        go : (f : Bool) → eqb (getD v 0 0) 0 ≡ f → (p : Bool) → test (L .row) (rowOk R cs) v && leb least (firstKey (recordOf (L .row) v)) ≡ p
-            → Bad ≡ cond f Free (cond p (Good (nextKey (recordOf (L .row) v)) (recordOf (L .row) v .amount)) Bad) → (eqb (getD v 0 0) 0 ≡ false) × (test (L .row) (rowOk R cs) v && leb least (firstKey (recordOf (L .row) v)) ≡ false)
-        go true z p y h = let n : _≡_ {A = ℕ} 0 1 = cc in let x : ⊥ = omega arith in absurd x
-        go false z true y h = let n : _≡_ {A = ℕ} 0 1 = cc in let x : ⊥ = omega arith in absurd x
-        go false z false y h = (z, y)
-
-    pub good-row : (next amount : ℕ) → Good next amount ≡ rowCheckOf R L cs least v → GoodRow R L cs least v next amount
-    unfolding rowCheckOf
-    good-row next amount e = go (eqb (getD v 0 0) 0) refl (test (L .row) (rowOk R cs) v && leb least (firstKey (recordOf (L .row) v))) refl e
-      where
-        go : (f : Bool) → eqb (getD v 0 0) 0 ≡ f → (p : Bool) → test (L .row) (rowOk R cs) v && leb least (firstKey (recordOf (L .row) v)) ≡ p
-            → Good next amount ≡ cond f Free (cond p (Good (nextKey (recordOf (L .row) v)) (recordOf (L .row) v .amount)) Bad) → GoodRow R L cs least v next amount
-        go true z p y h = let n : _≡_ {A = ℕ} 0 1 = cc in let x : ⊥ = omega arith in absurd x
-        go false z true y h = record { taken = z; passes = y; next-is = cc; amount-is = cc }
-        go false z false y h = let n : _≡_ {A = ℕ} 0 1 = cc in let x : ⊥ = omega arith in absurd x
+        go : (f : Bool) → eqb (getD v 0 0) 0 ≡ f → (z : Bool) → allZero (drop (suc (length (L .row .widths))) v) ≡ z → (p q : Bool) → rowOk R cs x ≡ p → leb least (firstKey x) ≡ q
+            → Says (cond f Free (cond z (cond (p && q) (Good (nextKey x) (x .amount)) Bad) Bad))
+        go true f z h p q i j = eq-yes (getD v 0 0) 0 f
+        go false f false h p q i j = (f, rw (f, h))
+        go false f true h true true i j = record { taken = f; passes = rw (f, h, i, j); next-is = refl; amount-is = refl }
+        go false f true h true false i j = (f, rw (f, h, i, j))
+        go false f true h false q i j = (f, rw (f, h, i))
 
   -- ---- rows that pass are in the order of their keys
-
-  row-span : (cs : Contracts) (x : Row) → rowOk R cs x ≡ true → Span x
-  row-span cs x e = let d = laws .rules .days _ (x .bill) (row-facts R cs x e .ranges) in record { days = d .0; short = d .1 }
 
   pub rows-keyed : (cs : Contracts) → Keyed (rowOk R cs) comesBefore firstKey nextKey
   unfolding before
   rows-keyed cs = record {
-    grows = λ x e. let p = row-span cs x e in omega (arith, p .days);
+    grows = λ x e. let p = span x e in omega (arith, p .days);
     order = λ x y e f.
-        let p = row-span cs x e in
-        let q = row-span cs y f in
+        let p = span x e in
+        let q = span y f in
         bool-same (comesBefore x y) (leb (nextKey x) (firstKey y)) (λ c. yes-le (nextKey x) (firstKey y) (next-first x y (comes-before x y p q c)))
         (λ c. before-comes x y p q (first-next x y (le-yes (nextKey x) (firstKey y) c)));
   }
     where
+      span : (x : Row) → rowOk R cs x ≡ true → Span x
+      span x e = row-span (laws .rules) (row-facts R cs x e)
+
       next-first : (x y : Row) → before x y → nextKey x ≤ firstKey y
       next-first x y h = omega arith
 
@@ -182,31 +180,28 @@ module _ {R : Rules} {L : Layout} (laws : Lawful R L) where
 
         pub row-malformed : Bad ≡ rowCheckOf R L cs least v → Malformed ≡ rowsCheckedOf R L b
         row-malformed f =
-            let g = bad-row cs least v f in
+            let g = check-says cs least v f in
             sym (found-bad (L .row) (rowOk R cs) firstKey nextKey (λ x. x .amount) Malformed WellFormed least i due v vs (g .0) (g .1)) ∙ here
 
         -- a row that passes: its amount is that of a bill, and the pass goes on
         module _ {next amount : ℕ} (f : Good next amount ≡ rowCheckOf R L cs least v) where
           good : GoodRow R L cs least v next amount
-          good = good-row cs least v next amount f
+          good = check-says cs least v f
 
-          amount-low : amount ≤ 1000000000000000
-          unfolding partOfDue
-          amount-low =
+          low : amount ≤ highestAmount
+          low =
               let g = good in
-              let x : Row = recordOf (L .row) v in
-              let o = row-facts R cs x (held-passes (L .row) (rowOk R cs) v (g .taken) (and-left (test (L .row) (rowOk R cs) v) _ (g .passes))) in
-              omega (arith, g .amount-is, o .part, laws .rules .low _ (x .bill) (o .ranges))
+              omega (arith, g .amount-is, amount-low (laws .rules) (row-facts R cs (recordOf (L .row) v) (held-passes (L .row) (rowOk R cs) v (g .taken) (and-left (test (L .row) (rowOk R cs) v) _ (g .passes)))))
 
-          pub row-adds : due + amount ≤ rowCount * 1000000000000000
-          row-adds = omega (arith, p .low, amount-low)
+          pub row-adds : due + amount ≤ rowCount * highestAmount
+          row-adds = omega (arith, p .low, low)
 
           pub row-passed : Passing R L b (i + 1) next (due + amount)
           row-passed =
               let g = good in
               record {
                 place = omega arith;
-                low = omega (arith, p .low, amount-low);
+                low = omega (arith, p .low, low);
                 rest =
                     ap₂ (λ (n a : ℕ). passed R L cs n (i + 1) (due + a) vs) (g .next-is) (g .amount-is)
                     ∙ sym (found-good (L .row) (rowOk R cs) firstKey nextKey (λ x. x .amount) Malformed WellFormed least i due v vs (g .taken) (g .passes)) ∙ here;
@@ -222,7 +217,7 @@ module _ {R : Rules} {L : Layout} (laws : Lawful R L) where
           zeros = zero-rest (L .row) (row-whole laws) rowCount (rowsFrom R L) b (rows-inside laws b long) i bytes h ∙ ap (λ (ws : List (List ℕ)). every (map allZero ws)) next-slots
 
           pub rows-end : restZero ≡ true → WellFormed i due ≡ rowsCheckedOf R L b
-          rows-end z = sym (found-free (L .row) (rowOk R cs) firstKey nextKey (λ x. x .amount) Malformed WellFormed least i due v vs (free-row cs least v f) (sym zeros ∙ z)) ∙ here
+          rows-end z = sym (found-free (L .row) (rowOk R cs) firstKey nextKey (λ x. x .amount) Malformed WellFormed least i due v vs (check-says cs least v f) (sym zeros ∙ z)) ∙ here
 
           pub rows-trailing : restZero ≡ false → Malformed ≡ rowsCheckedOf R L b
-          rows-trailing z = sym (found-trailing (L .row) (rowOk R cs) firstKey nextKey (λ x. x .amount) Malformed WellFormed least i due v vs (free-row cs least v f) (sym zeros ∙ z)) ∙ here
+          rows-trailing z = sym (found-trailing (L .row) (rowOk R cs) firstKey nextKey (λ x. x .amount) Malformed WellFormed least i due v vs (check-says cs least v f) (sym zeros ∙ z)) ∙ here

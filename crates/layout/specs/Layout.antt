@@ -6,15 +6,16 @@ use Prim.Native.Nat.{ℕ, _+_, _*_}
 use lib.Dec.{leb, ltb, eqb}
 use lib.ListN.{length, getD, drop}
 use lib.Pow.{areBytes}
+use Rattle.limits.specs.Limits.{rowCount, mostClaims}
 use Rattle.basics.specs.Tests.{every}
 use Rattle.records.specs.Pack.{size, pack, unpack}
-use Rattle.records.specs.Slots.{Kind, whole, slotOk, slots, arrayIn, arrayOut}
+use Rattle.records.specs.Slots.{RecordLayout, whole, slotOk, slots, arrayIn, arrayOut}
 use Rattle.records.specs.Places.{held, places, inOrder}
 use Rattle.records.specs.Numbered.{listed, numbered}
 use Rattle.records.specs.Pairs.{everyPair}
 use Rattle.rates.specs.declared.Contract.{Contract}
 use Rattle.model.specs.declared.Row.{Row}
-use Rattle.model.specs.Contracts.{Contracts, contractAt, isOpen}
+use Rattle.model.specs.Contracts.{Contracts, contractOf, isOpen}
 use Rattle.model.specs.Calls.{sharing}
 use Rattle.model.specs.Rules.{Rules, partOfDue}
 use Rattle.model.specs.Ledger.{Ledger, sortsAfter}
@@ -25,19 +26,16 @@ use Rattle.model.specs.History.{Machine}
 -- and a row's record
 pub record Layout : Type 0 where
   pub header : List ℕ
-  pub contract : Kind Contract
+  pub contract : RecordLayout Contract
   pub contractRanges : (territory : ℕ) → List ℕ → Bool
-  pub row : Kind Row
-
-abbrev pub rowCount : ℕ
-rowCount = 1024
+  pub row : RecordLayout Row
 
 -- a held row: its contract is open, it keeps the ranges, and its amount is its part of due
 abbrev pub rowTests : Rules → Contracts → Row → List Bool
 rowTests R cs x =
     ltb (x .bill .contract) (R .contractLimit)
     ∷ isOpen cs (x .bill .contract)
-    ∷ R .billOk (contractAt cs (x .bill .contract)) (x .bill)
+    ∷ R .billOk (contractOf cs (x .bill)) (x .bill)
     ∷ eqb (x .amount) (partOfDue R cs (x .bill))
     ∷ []
 
@@ -94,7 +92,7 @@ module _ (R : Rules) (L : Layout) where
   wellFormedTests b =
       eqb (length b) ledgerSize
       ∷ areBytes b
-      ∷ leb (claimsIn b) 1000
+      ∷ leb (claimsIn b) mostClaims
       ∷ (not (eqb (claimsIn b) 0) || eqb (penceIn b) 0)
       ∷ every (map (slotOk (L .contract) (contractTest b)) (slots (L .contract) (R .contractLimit) (drop contractsFrom b)))
       ∷ every (map (slotOk (L .row) (rowTest (contractsIn b))) (slots (L .row) rowCount (drop rowsFrom b)))

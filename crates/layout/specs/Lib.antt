@@ -1,7 +1,7 @@
 -- The packed ledger: any layout, document 01's, where its parts stand, and what is established of it.
 pub mod Layout
 pub mod Check
-pub mod PackedLedger
+pub mod PresentLayout
 pub mod Offsets
 pub mod Present
 pub mod Theorems

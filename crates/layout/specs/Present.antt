@@ -6,19 +6,19 @@ use Prim.Native.Nat.{ℕ}
 use Rattle.model.specs.declared.Row.{Row}
 use Rattle.model.specs.Contracts.{Contracts}
 use Rattle.model.specs.Rules.{Rules}
-use Rattle.model.specs.Document01.{document01}
+use Rattle.model.specs.PresentRules.{presentRules}
 use Rattle.model.specs.Ledger.{Ledger}
 use Rattle.model.specs.History.{Machine}
 use Rattle.layout.specs.declared.Checked.{Checked}
 use Rattle.layout.specs.Layout.{Layout, wellFormed, contractsIn, ledgerOf, bytesOf, machineOf}
 use Rattle.layout.specs.Check as Check
-use Rattle.layout.specs.PackedLedger.{packedLayout}
+use Rattle.layout.specs.PresentLayout.{presentLayout}
 
 abbrev pub rules : Rules
-rules = document01
+rules = presentRules
 
 abbrev pub layout : Layout
-layout = packedLayout
+layout = presentLayout
 
 -- whether bytes are a well-formed ledger, the facts that they hold, its contracts, and the bytes that hold given facts
 abbrev pub Formed : List ℕ → Type 0

@@ -7,28 +7,27 @@ use native.Mathlib.Omega.{arith}
 use lib.ListN.{length, replicate, length-replicate}
 use Rattle.basics.specs.Lists.{All}
 use Rattle.model.specs.declared.Answer.the-variants.{Refused}
-use Rattle.model.specs.Calls.{Call}
+use Rattle.model.specs.Calls.{CallWithBook}
 use Rattle.layout.specs.Layout.{wellFormed}
 use Rattle.layout.specs.Offsets.{ledgerLength}
 use Rattle.ledger.specs.OtherLengths.{otherLengths, NumberTwoFirst, badCalls}
-use Rattle.layout.proofs.PackedLedger.{packed, packed-size}
-use Rattle.layout.proofs.HeldRows.{formed-length}
 use Rattle.layout.proofs.Machine.{machine-malformed}
 use Rattle.layout.specs.Present.{rules, layout, machine}
+use Rattle.layout.proofs.Present.{present, formed-length}
 
 module _ (b : List ℕ) (other : length b ≡ ledgerLength → ⊥) where
   malformed : wellFormed rules layout b ≡ false
   malformed = go (wellFormed rules layout b) refl
     where
       go : (f : Bool) → wellFormed rules layout b ≡ f → f ≡ false
-      go true e = absurd (other (formed-length packed b e ∙ packed-size))
+      go true e = absurd (other (formed-length b e))
       go false e = refl
 
   -- for any call
-  pub other-length : (c : Call) → (machine .answer b c ≡ Refused 2) × (machine .step b c ≡ b)
-  other-length c = let m = machine-malformed packed b c malformed in (m .answered, m .left)
+  pub other-length : (c : CallWithBook) → (machine .answer b c ≡ Refused 2) × (machine .step b c ≡ b)
+  other-length c = let m = machine-malformed present b c malformed in (m .answered, m .left)
 
-  other-length-all : (cs : List Call) → All (λ c. (machine .answer b c ≡ Refused 2) × (machine .step b c ≡ b)) cs
+  other-length-all : (cs : List CallWithBook) → All (λ c. (machine .answer b c ≡ Refused 2) × (machine .step b c ≡ b)) cs
   other-length-all [] = tt
   other-length-all (c ∷ cs) = (other-length c, other-length-all cs)
 

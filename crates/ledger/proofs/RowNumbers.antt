@@ -4,31 +4,32 @@ use mathlib.Core.Bool.{true}
 use mathlib.Core.List.{List}
 use Prim.Native.Nat.{ℕ, suc, _^_, _<_}
 use lib.ListN.{length, drop}
+use Rattle.limits.specs.Limits.{contractCount, dayValues}
 use Rattle.fields.specs.Fields.{fields}
 use Rattle.fields.proofs.Laws.{field-lt}
-use Rattle.records.specs.Pack.{size, unpack}
+use Rattle.records.specs.Pack.{unpack}
 use Rattle.records.specs.Slots.{allZero}
 use Rattle.records.specs.OneSlot.{slotNumbers, slotPart, slotAt}
 use Rattle.records.proofs.Scan.{recordOf}
-use Rattle.layout.specs.Layout.{contractsFrom, rowsFrom}
+use Rattle.layout.specs.Layout.{rowsFrom}
 use Rattle.layout.specs.Check.{rowSlotAt}
-use Rattle.layout.specs.PackedLedger.{rowKind}
+use Rattle.layout.specs.PresentLayout.{rowRecord}
 use Rattle.layout.specs.Present.{rules, layout}
 
 module _ (b : List ℕ) (i : ℕ) where
   -- the fields fill the slot: there are no zeros after them
-  pub no-padding : allZero (drop (suc (length (rowKind .widths))) (rowSlotAt rules layout b i)) ≡ true
+  pub no-padding : allZero (drop (suc (length (rowRecord .widths))) (rowSlotAt rules layout b i)) ≡ true
   unfolding slotAt slotNumbers unpack fields
   no-padding = refl
 
-  pub row-amount-low : recordOf rowKind (rowSlotAt rules layout b i) .amount < 2 ^ 50
+  pub row-amount-low : recordOf rowRecord (rowSlotAt rules layout b i) .amount < 2 ^ 50
   unfolding slotAt slotNumbers unpack fields
-  row-amount-low = field-lt (slotPart rowKind (rowsFrom rules layout) b i) _ _
+  row-amount-low = field-lt (slotPart rowRecord (rowsFrom rules layout) b i) _ _
 
-  pub row-contract-low : recordOf rowKind (rowSlotAt rules layout b i) .bill .contract < 64
+  pub row-contract-low : recordOf rowRecord (rowSlotAt rules layout b i) .bill .contract < contractCount
   unfolding slotAt slotNumbers unpack fields
-  row-contract-low = field-lt (slotPart rowKind (rowsFrom rules layout) b i) _ _
+  row-contract-low = field-lt (slotPart rowRecord (rowsFrom rules layout) b i) _ _
 
-  pub row-days-low : (recordOf rowKind (rowSlotAt rules layout b i) .bill .first < 1024) × (recordOf rowKind (rowSlotAt rules layout b i) .bill .last < 1024)
+  pub row-days-low : (recordOf rowRecord (rowSlotAt rules layout b i) .bill .first < dayValues) × (recordOf rowRecord (rowSlotAt rules layout b i) .bill .last < dayValues)
   unfolding slotAt slotNumbers unpack fields
-  row-days-low = (field-lt (slotPart rowKind (rowsFrom rules layout) b i) _ _, field-lt (slotPart rowKind (rowsFrom rules layout) b i) _ _)
+  row-days-low = (field-lt (slotPart rowRecord (rowsFrom rules layout) b i) _ _, field-lt (slotPart rowRecord (rowsFrom rules layout) b i) _ _)

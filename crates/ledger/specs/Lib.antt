@@ -1,3 +1,4 @@
--- What the check and the search of a packed ledger find, and bytes of other lengths.
+-- Tests of rows, what a call owes, and bytes of other lengths.
 pub mod Rows
+pub mod Answered
 pub mod OtherLengths

@@ -6,7 +6,8 @@ use lib.ListN.{replicate}
 use Rattle.basics.specs.Lists.{All}
 use Rattle.model.specs.declared.Answer.the-variants.{Refused}
 use Rattle.model.specs.declared.Request.{Request}
-use Rattle.model.specs.Calls.{Call, callOpen, callBill, callRebill, callCert, callCancel, callClaim, callReport, callTotal}
+use Rattle.model.specs.declared.Call.{Call}
+use Rattle.model.specs.Calls.{CallWithBook, _with_}
 use Rattle.layout.specs.Present.{machine}
 
 -- no byte, one byte too few and one too many
@@ -18,16 +19,16 @@ unfoldable pub badRequest : Request
 badRequest = record { contract = 64; first = 0; last = 0; kwh = 100000001; supply = 1000000; wap = 1000000 }
 
 -- each call of a history, with numbers that are wrong where it takes any
-unfoldable pub badCalls : List Call
+unfoldable pub badCalls : List CallWithBook
 badCalls =
-    callOpen 64 2 4 852 852
-    ∷ callBill badRequest []
-    ∷ callRebill badRequest []
-    ∷ callCert 64 3 852
-    ∷ callCancel 64 0
-    ∷ callReport 64
-    ∷ callClaim
-    ∷ callTotal
+    (Call.Open 64 2 4 852 852 with [])
+    ∷ (Call.Bill badRequest with [])
+    ∷ (Call.Rebill badRequest with [])
+    ∷ (Call.Cert 64 3 852 with [])
+    ∷ (Call.Cancel 64 0 with [])
+    ∷ (Call.Report 64 with [])
+    ∷ (Call.Claim with [])
+    ∷ (Call.Total with [])
     ∷ []
 
 -- number 2 comes before all others, and no byte is changed

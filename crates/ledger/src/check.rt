@@ -1,23 +1,27 @@
 // The well-formed check: one pass over the contracts and the rows, each row unpacked once, with what the row before it leaves free.
 use crate::contracts::contract_at;
 use crate::contracts::is_open;
-use layout::CONTRACT_COUNT;
 use layout::CONTRACT_LENGTH;
 use layout::Checked;
 use layout::FIRST_CONTRACT;
 use layout::FIRST_ROW;
 use layout::LEDGER_LENGTH;
-use layout::ROW_COUNT;
 use layout::ROW_LENGTH;
 use layout::RowCheck;
+use limits::CONTRACT_COUNT;
+use limits::DAY_VALUES;
+use limits::MOST_CLAIMS;
+use limits::ROW_COUNT;
 use model::Row;
 ghost use mathlib.Core.Path.{_≡_};
-ghost use Prim.Native.Nat.{_<_, _≤_};
+ghost use Prim.Native.Nat.{_+_, _*_, _<_, _≤_};
 ghost use lib.ListN.{length};
-ghost use Rattle.layout.specs.Layout.{rowCount, rowOk};
-ghost use Rattle.layout.specs.Offsets.{firstContract, contractCount, ledgerLength};
-ghost use Rattle.layout.specs.Check.{checkedOf, headerOk, contractsOk, rowSlotAt, rowCheckOf, rowsCheckedOf};
+ghost use Rattle.limits.specs.Limits.{contractCount, rowCount, dayValues};
+ghost use Rattle.layout.specs.Layout.{rowOk};
+ghost use Rattle.layout.specs.Offsets.{firstContract, ledgerLength};
+ghost use Rattle.layout.specs.Check.{checkedOf, headerOk, contractsOk, rowSlotAt, heldCheckOf, rowCheckOf, rowsCheckedOf};
 ghost use Rattle.layout.specs.Present.{rules, layout, contracts};
+ghost use Rattle.ledger.specs.Rows.{RowRead};
 
 // Claims at most 1,000, and no pence where no claim was made.
 fn header_ok(b: &[u8]) -> bool
@@ -25,7 +29,7 @@ fn header_ok(b: &[u8]) -> bool
     ensures { λ r. ⌜ r ≡ headerOk rules layout (now (b .entry)) ⌝ }
 {
     let claims = codec::header::claims(b);
-    if 1000 < claims {
+    if MOST_CLAIMS < claims {
         return false;
     }
     if claims == 0 {
@@ -62,7 +66,7 @@ fn row_ok(b: &[u8], row: Row) -> bool
         return false;
     }
     let contract = contract_at(b, c);
-    if !codec::ranges::bill_ok(contract, bill) {
+    if !rules::ranges::bill_ok(contract, bill) {
         return false;
     }
     if row.amount == rates::amount(contract, bill) {
@@ -71,7 +75,33 @@ fn row_ok(b: &[u8], row: Row) -> bool
     false
 }
 
-// The check of row i, whose contract and first day, as one number, are to be `least` or more.
+// Contract and day as one number, in order of contract, then day.
+fn order_key(contract: u32, day: u32) -> u32
+    requires { ⌜ (contract < contractCount) × (day < dayValues) ⌝ }
+    ensures { λ r. ⌜ (r ≡ contract * dayValues + day) × (r < contractCount * dayValues) ⌝ }
+{
+    contract * DAY_VALUES + day
+}
+
+// The check of a held row, whose contract and first day, as one number, are to be `least` or more.
+fn check_held(b: &[u8], row: Row, least: u32) -> RowCheck
+    requires { ⌜ RowRead (now b) row ⌝ }
+    ensures { λ r. ⌜ r ≡ heldCheckOf rules (contracts (now (b .entry))) least row ⌝ }
+{
+    if !row_ok(b, row) {
+        return RowCheck::Bad;
+    }
+    let bill = row.bill;
+    if order_key(bill.contract, bill.first) < least {
+        return RowCheck::Bad;
+    }
+    RowCheck::Good {
+        next: order_key(bill.contract, bill.last) + 1,
+        amount: row.amount,
+    }
+}
+
+// The check of row slot i.
 fn check_row(b: &[u8], i: usize, least: u32) -> RowCheck
     requires { ⌜ (length (now b) ≡ ledgerLength) × (i < rowCount) ⌝ }
     ensures { λ r. ⌜ r ≡ rowCheckOf rules layout (contracts (now (b .entry))) least (rowSlotAt rules layout (now (b .entry)) i) ⌝ }
@@ -81,18 +111,7 @@ fn check_row(b: &[u8], i: usize, least: u32) -> RowCheck
     if !codec::rows::is_held(slot) {
         return RowCheck::Free;
     }
-    let row = codec::rows::unpack_row(slot);
-    if !row_ok(b, row) {
-        return RowCheck::Bad;
-    }
-    let bill = row.bill;
-    if bill.contract * 1024 + bill.first < least {
-        return RowCheck::Bad;
-    }
-    RowCheck::Good {
-        next: bill.contract * 1024 + bill.last + 1,
-        amount: row.amount,
-    }
+    check_held(b, codec::rows::unpack_row(slot), least)
 }
 
 // The check of all rows.
@@ -126,7 +145,10 @@ fn check_rows(b: &[u8]) -> Checked
         }
         i += 1;
     }
-    Checked::WellFormed { rows: 1024, due }
+    Checked::WellFormed {
+        rows: ROW_COUNT as u32,
+        due,
+    }
 }
 
 // Whether bytes are a well-formed ledger, with the number of its rows and the sum of their amounts.

@@ -1,14 +1,19 @@
 // Open contracts by their number.
 use layout::CONTRACT_LENGTH;
 use layout::FIRST_CONTRACT;
+use limits::CONTRACT_COUNT;
 use rates::Contract;
 ghost use mathlib.Core.Path.{_≡_};
 ghost use mathlib.Core.Bool.{true};
 ghost use Prim.Native.Nat.{_<_};
 ghost use lib.ListN.{length};
+ghost use Rattle.limits.specs.Limits.{contractCount};
+ghost use Rattle.model.specs.Calls.{firstOf};
+ghost use Rattle.model.specs.PresentRules.{openTests};
 ghost use Rattle.model.specs.Contracts.{contractAt, isOpen};
-ghost use Rattle.layout.specs.Offsets.{contractCount, ledgerLength};
+ghost use Rattle.layout.specs.Offsets.{ledgerLength};
 ghost use Rattle.layout.specs.Present.{contracts};
+ghost use Rattle.ledger.specs.Answered.{viewOf};
 
 // Whether the contract with that number is open.
 pub fn is_open(b: &[u8], c: usize) -> bool
@@ -26,4 +31,19 @@ pub fn contract_at(b: &[u8], c: usize) -> Contract
 {
     let at = FIRST_CONTRACT + c * CONTRACT_LENGTH;
     codec::contracts::unpack_contract(&b[at..at + CONTRACT_LENGTH])
+}
+
+// Refusals 4 and 5 of a call that names an open contract; 0 where neither fits.
+pub fn refused_contract(b: &[u8], contract: u32) -> u32
+    requires { ⌜ length (now b) ≡ ledgerLength ⌝ }
+    ensures { λ r. ⌜ r ≡ firstOf (openTests (viewOf (now (b .entry))) contract) ⌝ }
+{
+    let c = contract as usize;
+    if CONTRACT_COUNT <= c {
+        return 4;
+    }
+    if !is_open(b, c) {
+        return 5;
+    }
+    0
 }

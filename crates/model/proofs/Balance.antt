@@ -2,23 +2,25 @@
 use mathlib.Core.Path.{_≡_, refl, sym, ap, _∙_, subst}
 use mathlib.Core.Bool.{false≢true}
 use mathlib.Core.List.{List, [], _∷_, _++_, List·Memᴰ, List·Memᴰ·head, List·Memᴰ·tail}
-use Prim.Native.Nat.{ℕ, zero, suc, _-_, _*_, _/_, _<_, _≤_, zero-le}
+use Prim.Native.Nat.{ℕ, _-_, _*_, _/_, _<_, _≤_, zero-le}
 use native.Mathlib.Omega.{arith}
 use lib.IntN.{ℤ, pos, subℕ, _+ℤ_, +ℤ-idr}
+use Rattle.limits.specs.Limits.{ticksPerPenny}
 use Rattle.basics.specs.Lists.{All}
 use Rattle.basics.specs.Integers.{sumℤ}
 use Rattle.basics.proofs.Integers.{sub-ge, reset}
 use Rattle.rates.specs.declared.Bill.{Bill}
 use Rattle.model.specs.declared.Answer.{Answer}
 use Rattle.model.specs.declared.Answer.the-variants.{Claimed, Totalled}
-use Rattle.model.specs.Contracts.{contractAt, isOpen}
-use Rattle.model.specs.declared.Call.{Call as Made}
-use Rattle.model.specs.Calls.{Call, callTotal, customerAmount, claimPence, asked}
-use Rattle.model.specs.Rules.{Rules, refusal, partOfDue}
-use Rattle.model.specs.Ledger.{Ledger, fresh, unlessRefused, outcome, step, answer, view as viewL, due as dueL, accept as acceptL}
-use Rattle.model.specs.Sheet.{Sheet, blank, view as viewS, due as dueS, accept as acceptS, step as stepS, unlessRefused as unlessRefusedS}
+use Rattle.model.specs.Contracts.{contractOf, isOpen}
+use Rattle.model.specs.declared.Call.{Call}
+use Rattle.model.specs.Calls.{CallWithBook, customerAmount, claimPence, _with_}
+use Rattle.model.specs.Rules.{Rules, unlessRefused, partOfDue}
+use Rattle.model.specs.Ledger.{Ledger, fresh, turnedDown, outcome, step, answer, view as viewL, due as dueL, accept as acceptL}
+use Rattle.model.specs.Sheet.{Sheet, blank, due as dueS, step as stepS}
 use Rattle.model.specs.History.{run, replies, sheetAfter, stateAfter, answersTo, ledgerMachine}
 use Rattle.model.specs.Balance.{Balanced, EveryHistoryBalances}
+use Rattle.model.proofs.Outcomes.{either-outcome}
 use Rattle.model.proofs.Runs.{simulates, conserves, sum-append}
 use Rattle.model.proofs.Relation.{Related, BillOk, agree, dues}
 use Rattle.model.proofs.Conservation.{law-due, law-pence}
@@ -26,8 +28,8 @@ use Rattle.model.proofs.KeepsRelation.{keep-act}
 use Rattle.model.proofs.RulesLaws.{RulesLaws}
 use Rattle.model.proofs.StandingRows.{row-of-bill}
 
-rest-small : (d p : ℕ) → p ≡ d / 10000 → (u : ℕ) × (subℕ d (10000 * p) ≡ pos u) × (u < 10000)
-rest-small d p e = (d - 10000 * p, sub-ge d (10000 * p) (omega arith), omega arith)
+rest-small : (d p : ℕ) → p ≡ d / ticksPerPenny → (u : ℕ) × (subℕ d (ticksPerPenny * p) ≡ pos u) × (u < ticksPerPenny)
+rest-small d p e = (d - ticksPerPenny * p, sub-ge d (ticksPerPenny * p) (omega arith), omega arith)
 
 all-mem : {A : Type 0} (P : A → Type 0) (xs : List A) → All P xs → (x : A) → List·Memᴰ x xs → P x
 all-mem P (y ∷ xs) a x (List·Memᴰ·head e) = rw e (a .0)
@@ -38,66 +40,53 @@ module _ (R : Rules) (ok : RulesLaws R) where
   unfolding fresh blank isOpen
   start t = record { territory = refl; contracts = refl; claims = refl; same = λ w. refl; good = λ c e. absurd (false≢true e); sane = tt; once = λ c first. zero-le }
 
-  keep : (l : Ledger) (s : Sheet) (c : Call) → Related R l s → Related R (step R l c) (stepS R s c)
-  unfolding step outcome stepS
-  keep l s c r = subst (λ n. Related R (unlessRefused n l (acceptL R l c) .next) (stepS R s c)) (sym (agree R l s r c)) (go (refusal R (viewS s) c) refl)
-    where
-      go : (n : ℕ) → refusal R (viewS s) c ≡ n → Related R (unlessRefused n l (acceptL R l c) .next) (unlessRefusedS n s (acceptS s c))
-      go zero e = keep-act R ok l s c r e
-      go (suc n) e = r
+  keep : (l : Ledger) (s : Sheet) (c : CallWithBook) → Related R l s → Related R (step R l c) (stepS R s c)
+  unfolding step stepS
+  keep l s c r = either-outcome R l c (λ o. Related R (o .next) (stepS R s c))
+      (λ e. let f = sym (agree R l s r c) ∙ e in rw f (keep-act R ok l s c r f))
+      (λ n e. let f = sym (agree R l s r c) ∙ e in rw f r)
 
-  due-step : (l : Ledger) (s : Sheet) (c : Call) → Related R l s → pos (dueL (step R l c)) ≡ pos (dueL l) +ℤ customerAmount (answer R l c)
-  unfolding step outcome answer
-  due-step l s c r = go (refusal R (viewL l) c) refl
-    where
-      go : (n : ℕ) → refusal R (viewL l) c ≡ n → pos (dueL (unlessRefused n l (acceptL R l c) .next)) ≡ pos (dueL l) +ℤ customerAmount (unlessRefused n l (acceptL R l c) .answers)
-      go zero e = law-due R ok l s c r e
-      go (suc n) e = sym (+ℤ-idr _)
+  due-step : (l : Ledger) (s : Sheet) (c : CallWithBook) → Related R l s → pos (dueL (step R l c)) ≡ pos (dueL l) +ℤ customerAmount (answer R l c)
+  unfolding step answer
+  due-step l s c r = either-outcome R l c (λ o. pos (dueL (o .next)) ≡ pos (dueL l) +ℤ customerAmount (o .answers)) (law-due R ok l s c r) (λ n e. sym (+ℤ-idr _))
 
-  pence-step : (l : Ledger) (s : Sheet) (c : Call) → Related R l s → pos (step R l c .pence) ≡ pos (l .pence) +ℤ claimPence (answer R l c)
-  unfolding step outcome answer
-  pence-step l s c r = go (refusal R (viewL l) c)
-    where
-      go : (n : ℕ) → pos (unlessRefused n l (acceptL R l c) .next .pence) ≡ pos (l .pence) +ℤ claimPence (unlessRefused n l (acceptL R l c) .answers)
-      go zero = law-pence R ok l c
-      go (suc n) = sym (+ℤ-idr _)
+  pence-step : (l : Ledger) (s : Sheet) (c : CallWithBook) → Related R l s → pos (step R l c .pence) ≡ pos (l .pence) +ℤ claimPence (answer R l c)
+  unfolding step answer
+  pence-step l s c r = either-outcome R l c (λ o. pos (o .next .pence) ≡ pos (l .pence) +ℤ claimPence (o .answers)) (λ e. law-pence R ok l c) (λ n e. sym (+ℤ-idr _))
 
   -- ---- over a whole list, from any related start
 
-  pub related : (h : List Call) (l : Ledger) (s : Sheet) → Related R l s → Related R (run (step R) l h) (run (stepS R) s h)
+  pub related : (h : List CallWithBook) (l : Ledger) (s : Sheet) → Related R l s → Related R (run (step R) l h) (run (stepS R) s h)
   related = simulates (step R) (answer R) (stepS R) (Related R) keep
 
-  pub due-run : (h : List Call) (l : Ledger) (s : Sheet) → Related R l s → pos (dueL (run (step R) l h)) ≡ pos (dueL l) +ℤ sumℤ customerAmount (replies (step R) (answer R) l h)
+  pub due-run : (h : List CallWithBook) (l : Ledger) (s : Sheet) → Related R l s → pos (dueL (run (step R) l h)) ≡ pos (dueL l) +ℤ sumℤ customerAmount (replies (step R) (answer R) l h)
   due-run = conserves (step R) (answer R) (stepS R) (Related R) keep (λ l. pos (dueL l)) customerAmount due-step
 
-  pub pence-run : (h : List Call) (l : Ledger) (s : Sheet) → Related R l s → pos (run (step R) l h .pence) ≡ pos (l .pence) +ℤ sumℤ claimPence (replies (step R) (answer R) l h)
+  pub pence-run : (h : List CallWithBook) (l : Ledger) (s : Sheet) → Related R l s → pos (run (step R) l h .pence) ≡ pos (l .pence) +ℤ sumℤ claimPence (replies (step R) (answer R) l h)
   pence-run = conserves (step R) (answer R) (stepS R) (Related R) keep (λ l. pos (l .pence)) claimPence pence-step
 
-  total-says : (l : Ledger) → answer R l callTotal ≡ Totalled (dueL l) (subℕ (dueL l) (10000 * l .pence))
+  total-says : (l : Ledger) → answer R l (Call.Total with []) ≡ Totalled (dueL l) (subℕ (dueL l) (ticksPerPenny * l .pence))
   unfolding answer outcome acceptL
-  total-says l = subst (λ (n : ℕ). unlessRefused n l (acceptL R l callTotal) .answers ≡ Totalled (dueL l) (subℕ (dueL l) (10000 * l .pence))) (sym (ok .totals (viewL l) [])) refl
+  total-says l = subst (λ (n : ℕ). unlessRefused n (acceptL R l (Call.Total with [])) (turnedDown l n) .answers ≡ Totalled (dueL l) (subℕ (dueL l) (ticksPerPenny * l .pence))) (sym (ok .totals (viewL l) [])) refl
 
-  act-floor : (l : Ledger) (c : Call) (p : ℤ) (rest : ℕ) → acceptL R l c .answers ≡ Claimed p rest → acceptL R l c .next .pence ≡ dueL (acceptL R l c .next) / 10000
+  act-floor : (l : Ledger) (c : CallWithBook) (p : ℤ) (rest : ℕ) → acceptL R l c .answers ≡ Claimed p rest → acceptL R l c .next .pence ≡ dueL (acceptL R l c .next) / ticksPerPenny
   unfolding acceptL dueL
-  act-floor l (asked (Made.Open c fuel kind fix entry) book) p rest e = cc
-  act-floor l (asked (Made.Bill b) book) p rest e = cc
-  act-floor l (asked (Made.Rebill b) book) p rest e = cc
-  act-floor l (asked (Made.Cert c class effective) book) p rest e = cc
-  act-floor l (asked (Made.Cancel c first) book) p rest e = cc
-  act-floor l (asked Made.Claim book) p rest e = refl
-  act-floor l (asked (Made.Report c) book) p rest e = cc
-  act-floor l (asked Made.Total book) p rest e = cc
+  act-floor l (Call.Open c fuel kind fix entry with book) p rest e = cc
+  act-floor l (Call.Bill b with book) p rest e = cc
+  act-floor l (Call.Rebill b with book) p rest e = cc
+  act-floor l (Call.Cert c class effective with book) p rest e = cc
+  act-floor l (Call.Cancel c first with book) p rest e = cc
+  act-floor l (Call.Claim with book) p rest e = refl
+  act-floor l (Call.Report c with book) p rest e = cc
+  act-floor l (Call.Total with book) p rest e = cc
 
   -- an accepted claim leaves the pence at the floor, and no other call answers as it does
-  claim-floor : (l : Ledger) (c : Call) (p : ℤ) (rest : ℕ) → answer R l c ≡ Claimed p rest → step R l c .pence ≡ dueL (step R l c) / 10000
-  unfolding answer step outcome dueL
-  claim-floor l c p rest e = go (refusal R (viewL l) c) e
-    where
-      go : (n : ℕ) → unlessRefused n l (acceptL R l c) .answers ≡ Claimed p rest → unlessRefused n l (acceptL R l c) .next .pence ≡ dueL (unlessRefused n l (acceptL R l c) .next) / 10000
-      go zero e = act-floor l c p rest e
-      go (suc n) e = let z : _≡_ {A = ℕ} 0 1 = cc in let y : ⊥ = omega arith in absurd y
+  claim-floor : (l : Ledger) (c : CallWithBook) (p : ℤ) (rest : ℕ) → answer R l c ≡ Claimed p rest → step R l c .pence ≡ dueL (step R l c) / ticksPerPenny
+  unfolding answer step dueL
+  claim-floor l c p rest = either-outcome R l c (λ o. o .answers ≡ Claimed p rest → o .next .pence ≡ dueL (o .next) / ticksPerPenny) (λ e. act-floor l c p rest)
+      (λ n e f. let z : _≡_ {A = ℕ} 0 1 = cc in let y : ⊥ = omega arith in absurd y)
 
-  pub last-claim : (h : List Call) (l : Ledger) (before : List Answer) (p : ℤ) (rest : ℕ) → replies (step R) (answer R) l h ≡ before ++ (Claimed p rest ∷ []) → run (step R) l h .pence ≡ dueL (run (step R) l h) / 10000
+  pub last-claim : (h : List CallWithBook) (l : Ledger) (before : List Answer) (p : ℤ) (rest : ℕ) → replies (step R) (answer R) l h ≡ before ++ (Claimed p rest ∷ []) → run (step R) l h .pence ≡ dueL (run (step R) l h) / ticksPerPenny
   last-claim [] l [] p rest e = let z : _≡_ {A = ℕ} 0 1 = cc in let y : ⊥ = omega arith in absurd y
   last-claim [] l (a ∷ before) p rest e = let z : _≡_ {A = ℕ} 0 1 = cc in let y : ⊥ = omega arith in absurd y
   last-claim (c ∷ []) l [] p rest e = claim-floor l c p rest (cc)
@@ -107,9 +96,9 @@ module _ (R : Rules) (ok : RulesLaws R) where
 
   -- ---- the statement, from a related pair on: what was answered before, and what is answered after
 
-  module _ (l₀ : Ledger) (s₀ : Sheet) (r₀ : Related R l₀ s₀) (h : List Call) (earlier : List Answer)
+  module _ (l₀ : Ledger) (s₀ : Sheet) (r₀ : Related R l₀ s₀) (h : List CallWithBook) (earlier : List Answer)
       (due₀ : sumℤ customerAmount earlier ≡ pos (dueL l₀)) (pence₀ : sumℤ claimPence earlier ≡ pos (l₀ .pence))
-      (floor₀ : (before : List Answer) (p : ℤ) (rest : ℕ) → earlier ++ replies (step R) (answer R) l₀ h ≡ before ++ (Claimed p rest ∷ []) → run (step R) l₀ h .pence ≡ dueL (run (step R) l₀ h) / 10000) where
+      (floor₀ : (before : List Answer) (p : ℤ) (rest : ℕ) → earlier ++ replies (step R) (answer R) l₀ h ≡ before ++ (Claimed p rest ∷ []) → run (step R) l₀ h .pence ≡ dueL (run (step R) l₀ h) / ticksPerPenny) where
     abbrev l : Ledger
     l = run (step R) l₀ h
 
@@ -131,17 +120,17 @@ module _ (R : Rules) (ok : RulesLaws R) where
     pence-add-up : sumℤ claimPence answered ≡ pos (l .pence)
     pence-add-up = sum-append claimPence earlier _ ∙ rw pence₀ (sym (pence-run h l₀ s₀ r₀))
 
-    part-cap : (bs : List Bill) → All (BillOk R (s .contracts)) bs → (b : Bill) → List·Memᴰ b bs → partOfDue R (s .contracts) b ≤ R .most (contractAt (s .contracts) (b .contract)) b
+    part-cap : (bs : List Bill) → All (BillOk R (s .contracts)) bs → (b : Bill) → List·Memᴰ b bs → partOfDue R (s .contracts) b ≤ R .most (contractOf (s .contracts) b) b
     unfolding partOfDue
     part-cap bs a b m = ok .capped _ b (all-mem (BillOk R (s .contracts)) bs a b m .ranges)
 
-    pub balanced : Balanced R s answered (answer R l callTotal) (l .rows)
+    pub balanced : Balanced R s answered (answer R l (Call.Total with [])) (l .rows)
     balanced = record {
       customers = customers-add-up;
-      unclaimed = subℕ (dueS R s) (10000 * l .pence);
+      unclaimed = subℕ (dueS R s) (ticksPerPenny * l .pence);
       total = total-says l ∙ rw end-due;
-      claims = rw pence-add-up (sym (reset (10000 * l .pence) (dueS R s)));
-      claimed = λ before p rest e. rest-small (dueS R s) (l .pence) (floor₀ before p rest e ∙ ap (λ (d : ℕ). d / 10000) end-due);
+      claims = rw pence-add-up (sym (reset (ticksPerPenny * l .pence) (dueS R s)));
+      claimed = λ before p rest e. rest-small (dueS R s) (l .pence) (floor₀ before p rest e ∙ ap (λ (d : ℕ). d / ticksPerPenny) end-due);
       rows = λ b m. row-of-bill R _ _ end b m;
       capped = λ b m. part-cap (s .bills) (end .sane) b m;
     }

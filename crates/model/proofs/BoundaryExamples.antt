@@ -6,7 +6,7 @@ use Rattle.model.specs.Contracts.{contractAt, isOpen, putContract}
 use Rattle.model.specs.Book.{reference}
 use Rattle.model.specs.Calls.{named, sharing}
 use Rattle.model.specs.Rules.{refusal}
-use Rattle.model.specs.Document01.{badBook, badKind, badDays, badEffective, badSpan, badAmounts, noPrice, tests}
+use Rattle.model.specs.PresentRules.{badBook, badKind, badDays, badEffective, badSpan, badAmounts, noPrice, tests}
 use Rattle.model.specs.Sheet.{view}
 use Rattle.model.specs.Run.{zeroBook}
 use Rattle.model.specs.BoundaryExamples.{standing, sheetWith, britain, ireland, holding, claiming, april, atNumber3, atNumber4, atNumber5, atNumber6, atNumber7, atNumber8, atNumber9, atNumber10, atNumber11, atNumber12, atNumber13, inCheckingOrder, asGiven, AtTheBoundaries}

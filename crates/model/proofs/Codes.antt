@@ -5,6 +5,7 @@ use mathlib.Core.Bool.{Bool, true, false, not, cond}
 use Prim.Native.Nat.{ℕ, _≤_}
 use native.Mathlib.Omega.{arith}
 use lib.Dec.{ltb, eqb}
+use Rattle.limits.specs.Limits.{lastDay}
 use Rattle.basics.proofs.Tests.{either, eq-yes, eq-no, not-no, and-left, and-right, and-no, or-no-right, no-not}
 use Rattle.rates.specs.declared.Fuel.{Fuel}
 use Rattle.rates.specs.declared.Fuel.the-variants.{Electricity, Gas}
@@ -13,7 +14,7 @@ use Rattle.rates.specs.declared.Kind.the-variants.{Fixed, Variable, Flexible, I
 use Rattle.rates.specs.declared.Certificate.{Certificate}
 use Rattle.rates.specs.declared.Certificate.the-variants.{None, Etii, Qhs}
 use Rattle.model.specs.Codes.{fuelOf, fuelCode, kindOf, kindCode, priceFixDay, entryDay, certificateOf, classCode, effectiveDay}
-use Rattle.model.specs.Document01.{badDays, badEffective}
+use Rattle.model.specs.PresentRules.{badDays, badEffective}
 
 -- ---- from numbers and back
 
@@ -33,7 +34,7 @@ kind-code kind fix entry h = either (eqb kind 0) (λ e. rw e (sym (eq-yes kind 0
 zero-days : (kind fix entry : ℕ) → badDays kind fix entry ≡ false → eqb kind 0 ≡ false → (fix ≡ 0) × (entry ≡ 0)
 unfolding badDays
 zero-days kind fix entry e f =
-    let g = not-no _ (and-no (not (eqb kind 0)) _ (or-no-right (ltb 851 entry) _ (or-no-right (ltb 851 fix) _ e)) (no-not _ f)) in
+    let g = not-no _ (and-no (not (eqb kind 0)) _ (or-no-right (ltb lastDay entry) _ (or-no-right (ltb lastDay fix) _ e)) (no-not _ f)) in
     (eq-yes fix 0 (and-left (eqb fix 0) _ g), eq-yes entry 0 (and-right (eqb fix 0) _ g))
 
 -- what a kind that is not fixed says of its days

@@ -11,8 +11,8 @@ use Rattle.basics.proofs.Integers.{change, reset}
 use Rattle.rates.specs.declared.Bill.{Bill}
 use Rattle.model.specs.declared.Row.{Row}
 use Rattle.model.specs.Contracts.{contractAt}
-use Rattle.model.specs.declared.Call.{Call as Made}
-use Rattle.model.specs.Calls.{Call, named, requestedBill, customerAmount, claimPence, asked}
+use Rattle.model.specs.declared.Call.{Call}
+use Rattle.model.specs.Calls.{CallWithBook, named, requestedBill, customerAmount, claimPence, _with_}
 use Rattle.model.specs.Rules.{Rules, refusal}
 use Rattle.model.specs.Ledger.{Ledger, amountOf, remove, replace, priced, view as viewL, due as dueL, accept}
 use Rattle.model.specs.Sheet.{Sheet}
@@ -30,24 +30,24 @@ withdraw : (p : Bill → Bool) (xs : List Row) → count (λ x. p (x .bill)) xs 
 withdraw p xs h = omega (arith, total-remove p (λ x. x .amount) xs h, amount-at p xs h, total-split (λ x. p (x .bill)) (λ x. x .amount) xs)
 
 module _ (R : Rules) (ok : RulesLaws R) where
-  pub law-due : (l : Ledger) (s : Sheet) (c : Call) → Related R l s → refusal R (viewL l) c ≡ 0 → pos (dueL (accept R l c .next)) ≡ pos (dueL l) +ℤ customerAmount (accept R l c .answers)
+  pub law-due : (l : Ledger) (s : Sheet) (c : CallWithBook) → Related R l s → refusal R (viewL l) c ≡ 0 → pos (dueL (accept R l c .next)) ≡ pos (dueL l) +ℤ customerAmount (accept R l c .answers)
   unfolding accept dueL viewL
-  law-due l s (asked (Made.Open c fuel kind fix entry) book) r e = sym (+ℤ-idr _)
-  law-due l s (asked (Made.Bill b) book) r e = ap pos (omega (arith, total-insert (λ x. x .amount) (priced R (contractAt (l .contracts) (b .contract)) (requestedBill (l .contracts) b book)) (l .rows)))
-  law-due l s (asked (Made.Rebill b) book) r e = change _ _ _ _ (exchange (named (b .contract) (b .first)) _ (l .rows) (omega (arith, once-row R l s r (b .contract) (b .first), ok .rebill-found (viewL l) b book e)))
-  law-due l s (asked (Made.Cert c class effective) book) r e = reset _ _
-  law-due l s (asked (Made.Cancel c first) book) r e = change _ _ _ _ (withdraw (named c first) (l .rows) (once-row R l s r c first))
-  law-due l s (asked Made.Claim book) r e = sym (+ℤ-idr _)
-  law-due l s (asked (Made.Report c) book) r e = sym (+ℤ-idr _)
-  law-due l s (asked Made.Total book) r e = sym (+ℤ-idr _)
+  law-due l s (Call.Open c fuel kind fix entry with book) r e = sym (+ℤ-idr _)
+  law-due l s (Call.Bill b with book) r e = ap pos (omega (arith, total-insert (λ x. x .amount) (priced R (contractAt (l .contracts) (b .contract)) (requestedBill (l .contracts) b book)) (l .rows)))
+  law-due l s (Call.Rebill b with book) r e = change _ _ _ _ (exchange (named (b .contract) (b .first)) _ (l .rows) (omega (arith, once-row R l s r (b .contract) (b .first), ok .rebill-found (viewL l) b book e)))
+  law-due l s (Call.Cert c class effective with book) r e = reset _ _
+  law-due l s (Call.Cancel c first with book) r e = change _ _ _ _ (withdraw (named c first) (l .rows) (once-row R l s r c first))
+  law-due l s (Call.Claim with book) r e = sym (+ℤ-idr _)
+  law-due l s (Call.Report c with book) r e = sym (+ℤ-idr _)
+  law-due l s (Call.Total with book) r e = sym (+ℤ-idr _)
 
-  pub law-pence : (l : Ledger) (c : Call) → pos (accept R l c .next .pence) ≡ pos (l .pence) +ℤ claimPence (accept R l c .answers)
+  pub law-pence : (l : Ledger) (c : CallWithBook) → pos (accept R l c .next .pence) ≡ pos (l .pence) +ℤ claimPence (accept R l c .answers)
   unfolding accept
-  law-pence l (asked (Made.Open c fuel kind fix entry) book) = sym (+ℤ-idr _)
-  law-pence l (asked (Made.Bill b) book) = sym (+ℤ-idr _)
-  law-pence l (asked (Made.Rebill b) book) = sym (+ℤ-idr _)
-  law-pence l (asked (Made.Cert c class effective) book) = sym (+ℤ-idr _)
-  law-pence l (asked (Made.Cancel c first) book) = sym (+ℤ-idr _)
-  law-pence l (asked Made.Claim book) = reset _ _
-  law-pence l (asked (Made.Report c) book) = sym (+ℤ-idr _)
-  law-pence l (asked Made.Total book) = sym (+ℤ-idr _)
+  law-pence l (Call.Open c fuel kind fix entry with book) = sym (+ℤ-idr _)
+  law-pence l (Call.Bill b with book) = sym (+ℤ-idr _)
+  law-pence l (Call.Rebill b with book) = sym (+ℤ-idr _)
+  law-pence l (Call.Cert c class effective with book) = sym (+ℤ-idr _)
+  law-pence l (Call.Cancel c first with book) = sym (+ℤ-idr _)
+  law-pence l (Call.Claim with book) = reset _ _
+  law-pence l (Call.Report c with book) = sym (+ℤ-idr _)
+  law-pence l (Call.Total with book) = sym (+ℤ-idr _)

@@ -14,15 +14,15 @@ use Rattle.rates.specs.declared.Bill.{Bill}
 use Rattle.model.specs.declared.Row.{Row}
 use Rattle.model.specs.Codes.{opening, certify}
 use Rattle.model.specs.Contracts.{Contracts, contractAt, isOpen, putContract}
-use Rattle.model.specs.declared.Call.{Call as Made}
+use Rattle.model.specs.declared.Call.{Call}
 use Rattle.model.specs.declared.Request.{Request}
-use Rattle.model.specs.Calls.{Call, named, sharing, requestedBill, asked}
-use Rattle.model.specs.Rules.{Rules, refusal}
+use Rattle.model.specs.Calls.{CallWithBook, named, sharing, requestedBill, _with_}
+use Rattle.model.specs.Rules.{Rules, refusal, partOfDue, standingRow}
 use Rattle.model.specs.Ledger.{Ledger, remove, replace, priced, rerated, accept as acceptL}
 use Rattle.model.specs.Sheet.{Sheet, strikeOut, inPlaceOf, view as viewS, accept as acceptS}
 use Rattle.model.proofs.RowSums.{total-strike, total-swap, total-insert, total-remove, total-replace}
 use Rattle.model.proofs.RulesLaws.{Taken, Certified, RulesLaws}
-use Rattle.model.proofs.Relation.{Related, BillOk, rowOf, once-row}
+use Rattle.model.proofs.Relation.{Related, BillOk, once-row}
 
 pub named-contract : (c first : ℕ) (b : Bill) → named c first b ≡ true → b .contract ≡ c
 unfolding named
@@ -51,20 +51,12 @@ once-more b bs z c first h = either (named c first b)
 
 all-strike : (P : Bill → Type 0) (p : Bill → Bool) (bs : List Bill) → All P bs → All P (strikeOut p bs)
 all-strike P p [] a = tt
-all-strike P p (b ∷ bs) a = go (p b) (all-strike P p bs (a .1))
-  where
-    go : (x : Bool) → All P (strikeOut p bs) → All P (cond x (strikeOut p bs) (b ∷ strikeOut p bs))
-    go true t = t
-    go false t = (a .0, t)
+all-strike P p (b ∷ bs) a = either (p b) (λ e. rw e (all-strike P p bs (a .1))) (λ e. rw e (a .0, all-strike P p bs (a .1)))
 
 all-swap : (P : Bill → Type 0) (p : Bill → Bool) (b : Bill) (bs : List Bill) → P b → All P bs → All P (map (inPlaceOf p b) bs)
 unfolding inPlaceOf
 all-swap P p b [] h a = tt
-all-swap P p b (x ∷ bs) h a = (go (p x), all-swap P p b bs h (a .1))
-  where
-    go : (y : Bool) → P (cond y b x)
-    go true = h
-    go false = a .0
+all-swap P p b (x ∷ bs) h a = (either (p x) (λ e. rw e h) (λ e. rw e (a .0)), all-swap P p b bs h (a .1))
 
 -- what is left is no more than what was there
 count-strike : (p q : Bill → Bool) (bs : List Bill) → count q (strikeOut p bs) ≤ count q bs
@@ -105,19 +97,43 @@ contracts-put P cs c k o f d e = either (eqb d c)
     (λ i. rw (eq-yes d c i, at-same cs c k) o)
     (λ i. rw (at-other cs c d k (eq-no d c i)) (f d (sym (open-other cs c d k (eq-no d c i)) ∙ e)))
 
--- a row rated anew is the row of its bill under the other contract
-pub rerated-row : (R : Rules) (cs : Contracts) (c : ℕ) (k : Contract) (b : Bill) → rerated R c k (rowOf R cs b) ≡ rowOf R (putContract cs c k) b
-unfolding rowOf rerated priced
-rerated-row R cs c k b = either (eqb (b .contract) c)
-    (λ e. rw (e, eq-yes (b .contract) c e, at-same cs c k))
-    (λ e. rw (e, at-other cs c (b .contract) k (eq-no (b .contract) c e)))
+-- a bill of that contract, and one of another
+module _ (R : Rules) (cs : Contracts) (c : ℕ) (k : Contract) (b : Bill) where
+  pub part-own : b .contract ≡ c → partOfDue R (putContract cs c k) b ≡ R .amount k b
+  unfolding partOfDue
+  part-own e = ap (λ (j : Contract). R .amount j b) (ap (contractAt (putContract cs c k)) e ∙ at-same cs c k)
+
+  pub part-other : b .contract ≢ c → partOfDue R (putContract cs c k) b ≡ partOfDue R cs b
+  unfolding partOfDue
+  part-other n = ap (λ (j : Contract). R .amount j b) (at-other cs c (b .contract) k n)
+
+  pub bill-other : b .contract ≢ c → BillOk R cs b → BillOk R (putContract cs c k) b
+  bill-other n q = record { isOpened = open-other cs c (b .contract) k n ∙ q .isOpened; ranges = rw (at-other cs c (b .contract) k n) (q .ranges) }
+
+  -- a row rated anew is the row of its bill under the other contract
+  pub rerated-row : rerated R c k (standingRow R cs b) ≡ standingRow R (putContract cs c k) b
+  unfolding rerated priced
+  rerated-row = either (eqb (b .contract) c)
+      (λ e. rw (e, part-own (eq-yes (b .contract) c e)))
+      (λ e. rw (e, part-other (eq-no (b .contract) c e)))
+
+pub bill-certified : (R : Rules) → RulesLaws R → (cs : Contracts) (c class effective : ℕ) (b : Bill) → BillOk R cs b → BillOk R (putContract cs c (certify (contractAt cs c) class effective)) b
+bill-certified R ok cs c class effective b q = either (eqb (b .contract) c)
+    (λ e. let p : b .contract ≡ c = eq-yes (b .contract) c e in record {
+      isOpened = rw p (open-same cs c k′);
+      ranges = subst (λ (k : Contract). R .billOk k b ≡ true) (sym (ap (contractAt (putContract cs c k′)) p ∙ at-same cs c k′)) (ok .any-cert (contractAt cs c) class effective b (subst (λ (d : ℕ). R .billOk (contractAt cs d) b ≡ true) p (q .ranges)));
+    })
+    (λ e. bill-other R cs c k′ b (eq-no (b .contract) c e) q)
+  where
+    k′ : Contract
+    k′ = certify (contractAt cs c) class effective
 
 module _ (R : Rules) (ok : RulesLaws R) where
   named-count : (cs : Contracts) (c first last : ℕ) (bs : List Bill) → first ≤ last → All (BillOk R cs) bs → count (named c first) bs ≤ count (sharing c first last) bs
   named-count cs c first last bs h a = total-mono _ _ bs (all-map (BillOk R cs) _ (λ b q. one-le (named c first b) (sharing c first last b) (named-shares c first last b h (ok .days _ b (q .ranges) .0))) bs a)
 
-  keep-bill : (l : Ledger) (s : Sheet) (b : Request) (book : List ℕ) → Related R l s → refusal R (viewS s) (asked (Made.Bill b) book) ≡ 0 → Related R (acceptL R l (asked (Made.Bill b) book) .next) (acceptS s (asked (Made.Bill b) book))
-  unfolding acceptL acceptS viewS requestedBill rowOf
+  keep-bill : (l : Ledger) (s : Sheet) (b : Request) (book : List ℕ) → Related R l s → refusal R (viewS s) (Call.Bill b with book) ≡ 0 → Related R (acceptL R l (Call.Bill b with book) .next) (acceptS s (Call.Bill b with book))
+  unfolding acceptL acceptS viewS requestedBill partOfDue priced
   keep-bill l s b book r e = record {
     territory = r .territory;
     contracts = r .contracts;
@@ -140,19 +156,17 @@ module _ (R : Rules) (ok : RulesLaws R) where
   -- ---- a bill taken away, or put in place of another: sums over rows are sums over bills, with a test
 
   module _ (l : Ledger) (s : Sheet) (r : Related R l s) (c first : ℕ) where
-    gone : (w : Row → ℕ) → total w (remove (named c first) (l .rows)) ≡ total (λ b. w (rowOf R (s .contracts) b)) (strikeOut (named c first) (s .bills))
-    unfolding rowOf priced
+    gone : (w : Row → ℕ) → total w (remove (named c first) (l .rows)) ≡ total (λ b. w (standingRow R (s .contracts) b)) (strikeOut (named c first) (s .bills))
     gone w = total-remove (named c first) w (l .rows) (once-row R l s r c first)
         ∙ r .same (λ x. cond (named c first (x .bill)) 0 (w x))
-        ∙ sym (total-strike (named c first) (λ b. w (rowOf R (s .contracts) b)) (s .bills))
+        ∙ sym (total-strike (named c first) (λ b. w (standingRow R (s .contracts) b)) (s .bills))
 
-    exchanged : (b : Bill) (w : Row → ℕ) → total w (replace (named c first) (rowOf R (s .contracts) b) (l .rows)) ≡ total (λ b. w (rowOf R (s .contracts) b)) (map (inPlaceOf (named c first) b) (s .bills))
-    unfolding rowOf priced
-    exchanged b w = total-replace (named c first) w (rowOf R (s .contracts) b) (l .rows) (once-row R l s r c first)
-        ∙ r .same (λ x. cond (named c first (x .bill)) (w (rowOf R (s .contracts) b)) (w x))
-        ∙ sym (total-swap (named c first) b (λ b. w (rowOf R (s .contracts) b)) (s .bills))
+    exchanged : (b : Bill) (w : Row → ℕ) → total w (replace (named c first) (standingRow R (s .contracts) b) (l .rows)) ≡ total (λ b. w (standingRow R (s .contracts) b)) (map (inPlaceOf (named c first) b) (s .bills))
+    exchanged b w = total-replace (named c first) w (standingRow R (s .contracts) b) (l .rows) (once-row R l s r c first)
+        ∙ r .same (λ x. cond (named c first (x .bill)) (w (standingRow R (s .contracts) b)) (w x))
+        ∙ sym (total-swap (named c first) b (λ b. w (standingRow R (s .contracts) b)) (s .bills))
 
-  keep-cancel : (l : Ledger) (s : Sheet) (c first : ℕ) (book : List ℕ) → Related R l s → Related R (acceptL R l (asked (Made.Cancel c first) book) .next) (acceptS s (asked (Made.Cancel c first) book))
+  keep-cancel : (l : Ledger) (s : Sheet) (c first : ℕ) (book : List ℕ) → Related R l s → Related R (acceptL R l (Call.Cancel c first with book) .next) (acceptS s (Call.Cancel c first with book))
   unfolding acceptL acceptS
   keep-cancel l s c first book r = record {
     territory = r .territory;
@@ -164,8 +178,8 @@ module _ (R : Rules) (ok : RulesLaws R) where
     once = λ d f. let h : count (named d f) (s .bills) ≤ 1 = r .once d f in omega (arith, count-strike (named c first) (named d f) (s .bills));
   }
 
-  keep-rebill : (l : Ledger) (s : Sheet) (b : Request) (book : List ℕ) → Related R l s → refusal R (viewS s) (asked (Made.Rebill b) book) ≡ 0 → Related R (acceptL R l (asked (Made.Rebill b) book) .next) (acceptS s (asked (Made.Rebill b) book))
-  unfolding acceptL acceptS viewS requestedBill rowOf
+  keep-rebill : (l : Ledger) (s : Sheet) (b : Request) (book : List ℕ) → Related R l s → refusal R (viewS s) (Call.Rebill b with book) ≡ 0 → Related R (acceptL R l (Call.Rebill b with book) .next) (acceptS s (Call.Rebill b with book))
+  unfolding acceptL acceptS viewS requestedBill partOfDue priced
   keep-rebill l s b book r e = record {
     territory = r .territory;
     contracts = r .contracts;
@@ -180,15 +194,15 @@ module _ (R : Rules) (ok : RulesLaws R) where
       t = ok .rebills (viewS s) b book e
 
   -- the contract wasn't open, so no bill of it stands: nobody's row is another
-  keep-open : (l : Ledger) (s : Sheet) (c fuel kind fix entry : ℕ) (book : List ℕ) → Related R l s → refusal R (viewS s) (asked (Made.Open c fuel kind fix entry) book) ≡ 0 → Related R (acceptL R l (asked (Made.Open c fuel kind fix entry) book) .next) (acceptS s (asked (Made.Open c fuel kind fix entry) book))
-  unfolding acceptL acceptS viewS rowOf
+  keep-open : (l : Ledger) (s : Sheet) (c fuel kind fix entry : ℕ) (book : List ℕ) → Related R l s → refusal R (viewS s) (Call.Open c fuel kind fix entry with book) ≡ 0 → Related R (acceptL R l (Call.Open c fuel kind fix entry with book) .next) (acceptS s (Call.Open c fuel kind fix entry with book))
+  unfolding acceptL acceptS viewS
   keep-open l s c fuel kind fix entry book r e = record {
     territory = r .territory;
     contracts = rw (r .contracts);
     claims = r .claims;
-    same = λ w. r .same w ∙ total-all _ _ (s .bills) (all-map (BillOk R (s .contracts)) _ (λ b q. ap (λ (k : Contract). w (priced R k b)) (sym (at-other (s .contracts) c (b .contract) k′ (other b q)))) (s .bills) (r .sane));
+    same = λ w. r .same w ∙ total-all _ _ (s .bills) (all-map (BillOk R (s .contracts)) _ (λ b q. ap (λ (n : ℕ). w (record { bill = b; amount = n })) (sym (part-other R (s .contracts) c k′ b (other b q)))) (s .bills) (r .sane));
     good = contracts-put (λ k. R .contractOk (s .territory) k ≡ true) (s .contracts) c k′ (ok .opens (viewS s) c fuel kind fix entry book e .ranges) (r .good);
-    sane = all-map (BillOk R (s .contracts)) (BillOk R (putContract (s .contracts) c k′)) (λ b q. record { isOpened = open-other (s .contracts) c (b .contract) k′ (other b q) ∙ q .isOpened; ranges = rw (at-other (s .contracts) c (b .contract) k′ (other b q)) (q .ranges) }) (s .bills) (r .sane);
+    sane = all-map (BillOk R (s .contracts)) (BillOk R (putContract (s .contracts) c k′)) (λ b q. bill-other R (s .contracts) c k′ b (other b q) q) (s .bills) (r .sane);
     once = r .once;
   }
     where
@@ -198,15 +212,15 @@ module _ (R : Rules) (ok : RulesLaws R) where
       other : (b : Bill) → BillOk R (s .contracts) b → b .contract ≢ c
       other b q p = true≢false (sym (rw p at (q .isOpened)) ∙ ok .opens (viewS s) c fuel kind fix entry book e .new)
 
-  keep-cert : (l : Ledger) (s : Sheet) (c class effective : ℕ) (book : List ℕ) → Related R l s → refusal R (viewS s) (asked (Made.Cert c class effective) book) ≡ 0 → Related R (acceptL R l (asked (Made.Cert c class effective) book) .next) (acceptS s (asked (Made.Cert c class effective) book))
-  unfolding acceptL acceptS viewS rowOf rerated priced
+  keep-cert : (l : Ledger) (s : Sheet) (c class effective : ℕ) (book : List ℕ) → Related R l s → refusal R (viewS s) (Call.Cert c class effective with book) ≡ 0 → Related R (acceptL R l (Call.Cert c class effective with book) .next) (acceptS s (Call.Cert c class effective with book))
+  unfolding acceptL acceptS viewS
   keep-cert l s c class effective book r e = record {
     territory = r .territory;
     contracts = rw (r .contracts);
     claims = r .claims;
     same = λ w. rw (r .contracts) (total-map w (rerated R c k′) (l .rows) ∙ r .same (λ x. w (rerated R c k′ x)) ∙ total-cong _ _ (λ b. ap w (rerated-row R (s .contracts) c k′ b)) (s .bills));
     good = contracts-put (λ k. R .contractOk (s .territory) k ≡ true) (s .contracts) c k′ (o .ranges (contractAt (s .contracts) c) (r .good c (o .isOpened))) (r .good);
-    sane = all-map (BillOk R (s .contracts)) (BillOk R (putContract (s .contracts) c k′)) still (s .bills) (r .sane);
+    sane = all-map (BillOk R (s .contracts)) (BillOk R (putContract (s .contracts) c k′)) (bill-certified R ok (s .contracts) c class effective) (s .bills) (r .sane);
     once = r .once;
   }
     where
@@ -216,32 +230,13 @@ module _ (R : Rules) (ok : RulesLaws R) where
       o : Certified R (viewS s) c class effective
       o = ok .certs (viewS s) c class effective book e
 
-      still : (b : Bill) → BillOk R (s .contracts) b → BillOk R (putContract (s .contracts) c k′) b
-      still b q = either (eqb (b .contract) c)
-          (λ e. let p : b .contract ≡ c = eq-yes (b .contract) c e in record {
-            isOpened = rw p (open-same (s .contracts) c k′);
-            ranges = subst (λ (k : Contract). R .billOk k b ≡ true) (sym (ap (contractAt (putContract (s .contracts) c k′)) p ∙ at-same (s .contracts) c k′)) (ok .any-cert (contractAt (s .contracts) c) class effective b (subst (λ (d : ℕ). R .billOk (contractAt (s .contracts) d) b ≡ true) p (q .ranges)));
-          })
-          (λ e. let n : b .contract ≢ c = eq-no (b .contract) c e in record { isOpened = open-other (s .contracts) c (b .contract) k′ n ∙ q .isOpened; ranges = rw (at-other (s .contracts) c (b .contract) k′ n) (q .ranges) })
-
-  keep-claim : (l : Ledger) (s : Sheet) (book : List ℕ) → Related R l s → Related R (acceptL R l (asked Made.Claim book) .next) (acceptS s (asked Made.Claim book))
+  pub keep-act : (l : Ledger) (s : Sheet) (c : CallWithBook) → Related R l s → refusal R (viewS s) c ≡ 0 → Related R (acceptL R l c .next) (acceptS s c)
   unfolding acceptL acceptS
-  keep-claim l s book r = record { territory = r .territory; contracts = r .contracts; claims = ap suc (r .claims); same = r .same; good = r .good; sane = r .sane; once = r .once }
-
-  keep-report : (l : Ledger) (s : Sheet) (c : ℕ) (book : List ℕ) → Related R l s → Related R (acceptL R l (asked (Made.Report c) book) .next) (acceptS s (asked (Made.Report c) book))
-  unfolding acceptL acceptS
-  keep-report l s c book r = r
-
-  keep-total : (l : Ledger) (s : Sheet) (book : List ℕ) → Related R l s → Related R (acceptL R l (asked Made.Total book) .next) (acceptS s (asked Made.Total book))
-  unfolding acceptL acceptS
-  keep-total l s book r = r
-
-  pub keep-act : (l : Ledger) (s : Sheet) (c : Call) → Related R l s → refusal R (viewS s) c ≡ 0 → Related R (acceptL R l c .next) (acceptS s c)
-  keep-act l s (asked (Made.Open c fuel kind fix entry) book) r e = keep-open l s c fuel kind fix entry book r e
-  keep-act l s (asked (Made.Bill b) book) r e = keep-bill l s b book r e
-  keep-act l s (asked (Made.Rebill b) book) r e = keep-rebill l s b book r e
-  keep-act l s (asked (Made.Cert c class effective) book) r e = keep-cert l s c class effective book r e
-  keep-act l s (asked (Made.Cancel c first) book) r e = keep-cancel l s c first book r
-  keep-act l s (asked Made.Claim book) r e = keep-claim l s book r
-  keep-act l s (asked (Made.Report c) book) r e = keep-report l s c book r
-  keep-act l s (asked Made.Total book) r e = keep-total l s book r
+  keep-act l s (Call.Open c fuel kind fix entry with book) r e = keep-open l s c fuel kind fix entry book r e
+  keep-act l s (Call.Bill b with book) r e = keep-bill l s b book r e
+  keep-act l s (Call.Rebill b with book) r e = keep-rebill l s b book r e
+  keep-act l s (Call.Cert c class effective with book) r e = keep-cert l s c class effective book r e
+  keep-act l s (Call.Cancel c first with book) r e = keep-cancel l s c first book r
+  keep-act l s (Call.Claim with book) r e = record { territory = r .territory; contracts = r .contracts; claims = ap suc (r .claims); same = r .same; good = r .good; sane = r .sane; once = r .once }
+  keep-act l s (Call.Report c with book) r e = r
+  keep-act l s (Call.Total with book) r e = r

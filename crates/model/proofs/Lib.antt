@@ -1,12 +1,14 @@
 -- The laws of the rules, and the theorems.
 pub mod Refusals
+pub mod Outcomes
 pub mod Codes
 pub mod AcceptedBill
 pub mod RulesLaws
-pub mod Document01
+pub mod PresentRules
 pub mod Places
 pub mod RowSums
 pub mod RowOrder
+pub mod RowBounds
 pub mod Runs
 pub mod Relation
 pub mod KeepsRelation
@@ -20,6 +22,6 @@ pub mod HoldsFacts
 pub mod Differences
 pub mod SheetAnswers
 pub mod Postings
-pub mod Document01Balance
+pub mod BalanceByRates
 pub mod Run
 pub mod BoundaryExamples

@@ -1,11 +1,12 @@
 -- The ledger answers what the posting module answers, call by call, and so do its bytes in any format. Assumes nothing.
-use mathlib.Core.Path.{_≡_, refl, sym, ap, _∙_, subst}
+use mathlib.Core.Path.{_≡_, refl, sym, ap, _∙_}
 use mathlib.Core.Bool.{Bool, true, false, not, cond}
 use mathlib.Core.List.{List, [], _∷_, _++_, map}
-use Prim.Native.Nat.{ℕ, zero, suc, _+_, _-_, _*_, _/_, _%_}
+use Prim.Native.Nat.{ℕ, suc, _+_, _-_, _*_, _/_, _%_}
 use native.Mathlib.Omega.{arith}
 use lib.Dec.{eqb}
 use lib.IntN.{ℤ, pos, negsuc, negℤ, subℕ, _+ℤ_, +ℤ-idr, +ℤ-idl, +ℤ-comm, negℤ-+ℤ}
+use Rattle.limits.specs.Limits.{ticksPerPenny}
 use Rattle.basics.specs.Lists.{total}
 use Rattle.basics.proofs.Tests.{eq-no}
 use Rattle.basics.proofs.Lists.{total-cong, total-split}
@@ -14,21 +15,22 @@ use Rattle.rates.specs.declared.Contract.{Contract}
 use Rattle.rates.specs.declared.Bill.{Bill}
 use Rattle.model.specs.Codes.{certify}
 use Rattle.model.specs.Contracts.{Contracts, contractAt, putContract}
-use Rattle.model.specs.declared.Call.{Call as Made}
+use Rattle.model.specs.declared.Call.{Call}
 use Rattle.model.specs.declared.Request.{Request}
-use Rattle.model.specs.Calls.{Call, named, requestedBill, customerAmount, claimPence, asked}
+use Rattle.model.specs.Calls.{CallWithBook, named, requestedBill, customerAmount, claimPence, _with_}
 use Rattle.model.specs.Rules.{Rules, refusal, partOfDue}
-use Rattle.model.specs.Ledger.{Ledger, fresh, amountOf, unlessRefused, outcome, accept as acceptL, step as stepL, answer, due as dueL}
+use Rattle.model.specs.Ledger.{Ledger, fresh, amountOf, accept as acceptL, step as stepL, answer, due as dueL}
 use Rattle.model.specs.Sheet.{Sheet, view as viewS, due as dueS, accept as acceptS}
 use Rattle.model.specs.History.{replies, answersTo, ledgerMachine}
-use Rattle.model.specs.Format.{Format, unlessRefused as unlessRefusedP, bytesMachine, FormatLaws}
+use Rattle.model.specs.Format.{Format, bytesMachine, FormatLaws}
 use Rattle.model.specs.SheetAnswers.{namedPart}
-use Rattle.model.specs.Postings.{noFigures, answeredRate, answeredFigures, Postings, nothingPosted, sumPosted, passing, issues, reversals, posts, acceptedRate, acceptedPence, accept, acceptedFigures, step, figures, FloorLeavesRest, SameAsPostings}
+use Rattle.model.specs.Postings.{answeredRate, answeredFigures, Postings, nothingPosted, sumPosted, passing, issues, reversals, posts, acceptedRate, acceptedPence, accept, acceptedFigures, step, figures, FloorLeavesRest, SameAsPostings}
 use Rattle.model.proofs.RulesLaws.{RulesLaws}
+use Rattle.model.proofs.Outcomes.{either-outcome}
 use Rattle.model.proofs.RowSums.{total-strike}
 use Rattle.model.proofs.Runs.{sum-append}
 use Rattle.model.proofs.Relation.{Related, agree, dues}
-use Rattle.model.proofs.KeepsRelation.{at-other, keep-act}
+use Rattle.model.proofs.KeepsRelation.{part-other, keep-act}
 use Rattle.model.proofs.Conservation.{law-due, law-pence}
 use Rattle.model.proofs.Balance.{start}
 use Rattle.model.proofs.Differences.{sub-pos, sub-same}
@@ -37,9 +39,9 @@ use Rattle.model.proofs.Refinement.{same-answers}
 use Rattle.model.proofs.BytesBalance.{bytes-refine}
 
 pub floor-leaves-rest : FloorLeavesRest
-floor-leaves-rest (pos n) = (n % 10000, ap pos (omega arith), omega arith)
+floor-leaves-rest (pos n) = (n % ticksPerPenny, ap pos (omega arith), omega arith)
 floor-leaves-rest (negsuc n) =
-    let m : ℕ = 10000 * suc (n / 10000) in
+    let m : ℕ = ticksPerPenny * suc (n / ticksPerPenny) in
     let rest : ℕ = m - suc n in
     let back : m - suc rest ≡ n = omega arith in
     (rest, sym (+ℤ-comm (negℤ (pos m)) (pos rest) ∙ sym (sub-pos rest m) ∙ sub-lt rest m (omega arith) ∙ ap negsuc back), omega arith)
@@ -84,20 +86,16 @@ module _ (R : Rules) (ok : RulesLaws R) where
     named-bills c first = named-amount R l s r c first ∙ sym (total-passing (named c first) (partOfDue R (s .contracts)) (s .bills))
 
     -- a certificate changes due by what it changes the parts of its contract's bills
-    part-other : (c : ℕ) (k : Contract) (b : Bill) → eqb (b .contract) c ≡ false → partOfDue R (putContract (s .contracts) c k) b ≡ partOfDue R (s .contracts) b
-    unfolding partOfDue
-    part-other c k b e = ap (λ (k : Contract). R .amount k b) (at-other (s .contracts) c (b .contract) k (eq-no (b .contract) c e))
-
     certified-due : (c : ℕ) (k : Contract) → total (partOfDue R (putContract (s .contracts) c k)) (s .bills) + total (partOfDue R (s .contracts)) (passing (λ b. eqb (b .contract) c) (s .bills))
         ≡ total (partOfDue R (putContract (s .contracts) c k)) (passing (λ b. eqb (b .contract) c) (s .bills)) + total (partOfDue R (s .contracts)) (s .bills)
     certified-due c k =
         let new : Bill → ℕ = partOfDue R (putContract (s .contracts) c k) in
         let old : Bill → ℕ = partOfDue R (s .contracts) in
         let of : Bill → Bool = λ b. eqb (b .contract) c in
-        let others : total (λ b. cond (of b) 0 (new b)) (s .bills) ≡ total (λ b. cond (of b) 0 (old b)) (s .bills) = total-cong _ _ (λ b. other-same (of b) (new b) (old b) (part-other c k b)) (s .bills) in
+        let others : total (λ b. cond (of b) 0 (new b)) (s .bills) ≡ total (λ b. cond (of b) 0 (old b)) (s .bills) = total-cong _ _ (λ b. other-same (of b) (new b) (old b) (λ e. part-other R (s .contracts) c k b (eq-no (b .contract) c e))) (s .bills) in
         omega (arith, total-passing of new (s .bills), total-passing of old (s .bills), total-split of new (s .bills), total-split of old (s .bills), others)
 
-    rebilled-customer : (q : Request) (book : List ℕ) → customerAmount (acceptL R l (asked (Made.Rebill q) book) .answers) ≡ sumPosted (posts R s (asked (Made.Rebill q) book))
+    rebilled-customer : (q : Request) (book : List ℕ) → customerAmount (acceptL R l (Call.Rebill q with book) .answers) ≡ sumPosted (posts R s (Call.Rebill q with book))
     unfolding acceptL posts
     rebilled-customer q book =
         let b = requestedBill (s .contracts) q book in
@@ -105,27 +103,27 @@ module _ (R : Rules) (ok : RulesLaws R) where
         (λ i. subℕ ((requested-amount R l s r q book ∙ sym n) i) (named-bills (q .contract) (q .first) i))
         ∙ sym (sum-exchanged R (s .contracts) (s .contracts) (passing (named (q .contract) (q .first)) (s .bills)) (b ∷ []))
 
-    certified-customer : (c class effective : ℕ) (book : List ℕ) → refusal R (viewS s) (asked (Made.Cert c class effective) book) ≡ 0 → customerAmount (acceptL R l (asked (Made.Cert c class effective) book) .answers) ≡ sumPosted (posts R s (asked (Made.Cert c class effective) book))
+    certified-customer : (c class effective : ℕ) (book : List ℕ) → refusal R (viewS s) (Call.Cert c class effective with book) ≡ 0 → customerAmount (acceptL R l (Call.Cert c class effective with book) .answers) ≡ sumPosted (posts R s (Call.Cert c class effective with book))
     unfolding acceptL acceptS posts dueL dueS
     certified-customer c class effective book e =
         let cs = putContract (s .contracts) c (certify (contractAt (s .contracts) c) class effective) in
         let bs = passing (λ b. eqb (b .contract) c) (s .bills) in
-        (λ i. subℕ (dues R (acceptL R l (asked (Made.Cert c class effective) book) .next) (acceptS s (asked (Made.Cert c class effective) book)) (keep-act R ok l s (asked (Made.Cert c class effective) book) r e) i) (dues R l s r i))
+        (λ i. subℕ (dues R (acceptL R l (Call.Cert c class effective with book) .next) (acceptS s (Call.Cert c class effective with book)) (keep-act R ok l s (Call.Cert c class effective with book) r e) i) (dues R l s r i))
         ∙ sub-same (total (partOfDue R cs) (s .bills)) (total (partOfDue R (s .contracts)) (s .bills)) (total (partOfDue R cs) bs) (total (partOfDue R (s .contracts)) bs) (certified-due c (certify (contractAt (s .contracts) c) class effective))
         ∙ sym (sum-exchanged R (s .contracts) cs bs bs)
 
-    posted-customer : (c : Call) → refusal R (viewS s) c ≡ 0 → customerAmount (acceptL R l c .answers) ≡ sumPosted (posts R s c)
+    posted-customer : (c : CallWithBook) → refusal R (viewS s) c ≡ 0 → customerAmount (acceptL R l c .answers) ≡ sumPosted (posts R s c)
     unfolding acceptL posts
-    posted-customer (asked (Made.Open c fuel kind fix entry) book) e = refl
-    posted-customer (asked (Made.Bill q) book) e = ap pos (requested-amount R l s r q book) ∙ sym (+ℤ-idr _)
-    posted-customer (asked (Made.Rebill q) book) e = rebilled-customer q book
-    posted-customer (asked (Made.Cert c class effective) book) e = certified-customer c class effective book e
-    posted-customer (asked (Made.Cancel c first) book) e =
+    posted-customer (Call.Open c fuel kind fix entry with book) e = refl
+    posted-customer (Call.Bill q with book) e = ap pos (requested-amount R l s r q book) ∙ sym (+ℤ-idr _)
+    posted-customer (Call.Rebill q with book) e = rebilled-customer q book
+    posted-customer (Call.Cert c class effective with book) e = certified-customer c class effective book e
+    posted-customer (Call.Cancel c first with book) e =
         let bs = passing (named c first) (s .bills) in
         ap (subℕ 0) (named-bills c first) ∙ sub-pos 0 (total (partOfDue R (s .contracts)) bs) ∙ +ℤ-idl _ ∙ sym (sum-reversed (partOfDue R (s .contracts)) bs)
-    posted-customer (asked Made.Claim book) e = refl
-    posted-customer (asked (Made.Report c) book) e = refl
-    posted-customer (asked Made.Total book) e = refl
+    posted-customer (Call.Claim with book) e = refl
+    posted-customer (Call.Report c with book) e = refl
+    posted-customer (Call.Total with book) e = refl
 
   -- ---- the ledger beside the posting module
 
@@ -135,51 +133,49 @@ module _ (R : Rules) (ok : RulesLaws R) where
     pub claimed : p .claimed ≡ pos (l .pence)
 
   module _ (l : Ledger) (p : Postings) (a : Agree l p) where
-    accepted-rate : (c : Call) → answeredRate (acceptL R l c .answers) ≡ acceptedRate R (p .standing) c
+    accepted-rate : (c : CallWithBook) → answeredRate (acceptL R l c .answers) ≡ acceptedRate R (p .standing) c
     unfolding acceptL acceptedRate requestedBill
-    accepted-rate (asked (Made.Open c fuel kind fix entry) book) = refl
-    accepted-rate (asked (Made.Bill q) book) = rw (a .facts .contracts)
-    accepted-rate (asked (Made.Rebill q) book) = rw (a .facts .contracts)
-    accepted-rate (asked (Made.Cert c class effective) book) = refl
-    accepted-rate (asked (Made.Cancel c first) book) = refl
-    accepted-rate (asked Made.Claim book) = refl
-    accepted-rate (asked (Made.Report c) book) = refl
-    accepted-rate (asked Made.Total book) = refl
+    accepted-rate (Call.Open c fuel kind fix entry with book) = refl
+    accepted-rate (Call.Bill q with book) = rw (a .facts .contracts)
+    accepted-rate (Call.Rebill q with book) = rw (a .facts .contracts)
+    accepted-rate (Call.Cert c class effective with book) = refl
+    accepted-rate (Call.Cancel c first with book) = refl
+    accepted-rate (Call.Claim with book) = refl
+    accepted-rate (Call.Report c with book) = refl
+    accepted-rate (Call.Total with book) = refl
 
-    accepted-pence : (c : Call) → claimPence (acceptL R l c .answers) ≡ acceptedPence p c
+    accepted-pence : (c : CallWithBook) → claimPence (acceptL R l c .answers) ≡ acceptedPence p c
     unfolding acceptL acceptedPence
-    accepted-pence (asked (Made.Open c fuel kind fix entry) book) = refl
-    accepted-pence (asked (Made.Bill q) book) = refl
-    accepted-pence (asked (Made.Rebill q) book) = refl
-    accepted-pence (asked (Made.Cert c class effective) book) = refl
-    accepted-pence (asked (Made.Cancel c first) book) = refl
-    accepted-pence (asked Made.Claim book) = rw (a .posted, a .claimed) (sub-pos (dueL l / 10000) (l .pence))
-    accepted-pence (asked (Made.Report c) book) = refl
-    accepted-pence (asked Made.Total book) = refl
+    accepted-pence (Call.Open c fuel kind fix entry with book) = refl
+    accepted-pence (Call.Bill q with book) = refl
+    accepted-pence (Call.Rebill q with book) = refl
+    accepted-pence (Call.Cert c class effective with book) = refl
+    accepted-pence (Call.Cancel c first with book) = refl
+    accepted-pence (Call.Claim with book) = rw (a .posted, a .claimed) (sub-pos (dueL l / ticksPerPenny) (l .pence))
+    accepted-pence (Call.Report c with book) = refl
+    accepted-pence (Call.Total with book) = refl
 
-    same-figures : (c : Call) → answeredFigures (answer R l c) ≡ figures R p c
-    unfolding answeredFigures answer outcome figures acceptedFigures
-    same-figures c = subst (λ (n : ℕ). answeredFigures (unlessRefused n l (acceptL R l c) .answers) ≡ figures R p c) (sym (agree R l (p .standing) (a .facts) c)) (go (refusal R (viewS (p .standing)) c) refl)
-      where
-        go : (n : ℕ) → refusal R (viewS (p .standing)) c ≡ n → answeredFigures (unlessRefused n l (acceptL R l c) .answers) ≡ unlessRefusedP n (acceptedFigures R p c) noFigures
-        go zero e = λ i. record { rate = accepted-rate c i; customer = posted-customer l (p .standing) (a .facts) c e i; pence = accepted-pence c i }
-        go (suc n) e = refl
+    same-figures : (c : CallWithBook) → answeredFigures (answer R l c) ≡ figures R p c
+    unfolding answeredFigures answer figures acceptedFigures
+    same-figures c = either-outcome R l c (λ o. answeredFigures (o .answers) ≡ figures R p c)
+        (λ e. let f = sym (agree R l (p .standing) (a .facts) c) ∙ e in rw f (λ i. record { rate = accepted-rate c i; customer = posted-customer l (p .standing) (a .facts) c f i; pence = accepted-pence c i }))
+        (λ n e. let f = sym (agree R l (p .standing) (a .facts) c) ∙ e in rw f)
 
-    keep-agree : (c : Call) → Agree (stepL R l c) (step R p c)
-    unfolding stepL outcome step accept
-    keep-agree c = subst (λ (n : ℕ). Agree (unlessRefused n l (acceptL R l c) .next) (step R p c)) (sym (agree R l (p .standing) (a .facts) c)) (go (refusal R (viewS (p .standing)) c) refl)
-      where
-        go : (n : ℕ) → refusal R (viewS (p .standing)) c ≡ n → Agree (unlessRefused n l (acceptL R l c) .next) (unlessRefusedP n (accept R p c) p)
-        go zero e = record {
-          facts = keep-act R ok l (p .standing) c (a .facts) e;
+    keep-agree : (c : CallWithBook) → Agree (stepL R l c) (step R p c)
+    unfolding stepL step accept
+    keep-agree c = either-outcome R l c (λ o. Agree (o .next) (step R p c))
+        (λ e.
+        let f = sym (agree R l (p .standing) (a .facts) c) ∙ e in
+        rw f (record {
+          facts = keep-act R ok l (p .standing) c (a .facts) f;
           posted = sum-append (λ z. z) (p .posted) (posts R (p .standing) c)
-              ∙ (λ i. a .posted i +ℤ sym (posted-customer l (p .standing) (a .facts) c e) i)
-              ∙ sym (law-due R ok l (p .standing) c (a .facts) (agree R l (p .standing) (a .facts) c ∙ e));
+              ∙ (λ i. a .posted i +ℤ sym (posted-customer l (p .standing) (a .facts) c f) i)
+              ∙ sym (law-due R ok l (p .standing) c (a .facts) e);
           claimed = (λ i. a .claimed i +ℤ sym (accepted-pence c) i) ∙ sym (law-pence R ok l c);
-        }
-        go (suc n) e = a
+        }))
+        (λ n e. let f = sym (agree R l (p .standing) (a .facts) c) ∙ e in rw f a)
 
-  same-run : (h : List Call) (l : Ledger) (p : Postings) → Agree l p → map answeredFigures (replies (stepL R) (answer R) l h) ≡ replies (step R) (figures R) p h
+  same-run : (h : List CallWithBook) (l : Ledger) (p : Postings) → Agree l p → map answeredFigures (replies (stepL R) (answer R) l h) ≡ replies (step R) (figures R) p h
   same-run [] l p a = refl
   same-run (c ∷ h) l p a = λ i. same-figures l p a c i ∷ same-run h (stepL R l c) (step R p c) (keep-agree l p a c) i
 

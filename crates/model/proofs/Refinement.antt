@@ -3,7 +3,7 @@ use mathlib.Core.Path.{_≡_, refl, sym, ap, _∙_, subst₃}
 use mathlib.Core.List.{List, [], _∷_}
 use Prim.Native.Nat.{ℕ, _≤_}
 use Rattle.model.specs.declared.Answer.{Answer}
-use Rattle.model.specs.Calls.{Call}
+use Rattle.model.specs.Calls.{CallWithBook}
 use Rattle.model.specs.Ledger.{Ledger}
 use Rattle.model.specs.History.{run, replies, Machine, stateAfter, answersTo}
 
@@ -13,25 +13,25 @@ pub record Refines (m n : Machine) : Type 1 where
   pub read : m .State → n .State
   pub start-good : (t : ℕ) → t ≤ 1 → good (m .start t)
   pub start-read : (t : ℕ) → t ≤ 1 → read (m .start t) ≡ n .start t
-  pub keeps : (b : m .State) (c : Call) → good b → good (m .step b c)
-  pub steps : (b : m .State) (c : Call) → good b → read (m .step b c) ≡ n .step (read b) c
-  pub says : (b : m .State) (c : Call) → good b → m .answer b c ≡ n .answer (read b) c
+  pub keeps : (b : m .State) (c : CallWithBook) → good b → good (m .step b c)
+  pub steps : (b : m .State) (c : CallWithBook) → good b → read (m .step b c) ≡ n .step (read b) c
+  pub says : (b : m .State) (c : CallWithBook) → good b → m .answer b c ≡ n .answer (read b) c
   pub holds : (b : m .State) → good b → m .facts b ≡ n .facts (read b)
 
 module _ (m n : Machine) (f : Refines m n) where
-  good-run : (h : List Call) (b : m .State) → f .good b → f .good (run (m .step) b h)
+  good-run : (h : List CallWithBook) (b : m .State) → f .good b → f .good (run (m .step) b h)
   good-run [] b g = g
   good-run (c ∷ h) b g = good-run h (m .step b c) (f .keeps b c g)
 
-  read-run : (h : List Call) (b : m .State) → f .good b → f .read (run (m .step) b h) ≡ run (n .step) (f .read b) h
+  read-run : (h : List CallWithBook) (b : m .State) → f .good b → f .read (run (m .step) b h) ≡ run (n .step) (f .read b) h
   read-run [] b g = refl
   read-run (c ∷ h) b g = read-run h (m .step b c) (f .keeps b c g) ∙ ap (λ (l : n .State). run (n .step) l h) (f .steps b c g)
 
-  says-run : (h : List Call) (b : m .State) → f .good b → replies (m .step) (m .answer) b h ≡ replies (n .step) (n .answer) (f .read b) h
+  says-run : (h : List CallWithBook) (b : m .State) → f .good b → replies (m .step) (m .answer) b h ≡ replies (n .step) (n .answer) (f .read b) h
   says-run [] b g = refl
   says-run (c ∷ h) b g = λ i. f .says b c g i ∷ (says-run h (m .step b c) (f .keeps b c g) ∙ ap (λ (l : n .State). replies (n .step) (n .answer) l h) (f .steps b c g)) i
 
-  module _ (t : ℕ) (o : t ≤ 1) (h : List Call) where
+  module _ (t : ℕ) (o : t ≤ 1) (h : List CallWithBook) where
     -- no state that a history reaches is bad
     pub good-after : f .good (stateAfter m t h)
     unfolding stateAfter
@@ -45,14 +45,14 @@ module _ (m n : Machine) (f : Refines m n) where
     unfolding answersTo
     same-answers = says-run h (m .start t) (f .start-good t o) ∙ ap (λ (l : n .State). replies (n .step) (n .answer) l h) (f .start-read t o)
 
-    same-answer : (c : Call) → m .answer (stateAfter m t h) c ≡ n .answer (stateAfter n t h) c
+    same-answer : (c : CallWithBook) → m .answer (stateAfter m t h) c ≡ n .answer (stateAfter n t h) c
     same-answer c = f .says (stateAfter m t h) c good-after ∙ ap (λ (l : n .State). n .answer l c) read-after
 
     same-facts : m .facts (stateAfter m t h) ≡ n .facts (stateAfter n t h)
     same-facts = f .holds (stateAfter m t h) good-after ∙ ap (n .facts) read-after
 
     -- whatever holds of the answers to a history, of the answer to a call made next and of the facts then held
-    pub carry : (P : List Answer → Answer → Ledger → Type 0) (c : Call)
+    pub carry : (P : List Answer → Answer → Ledger → Type 0) (c : CallWithBook)
         → P (answersTo n t h) (n .answer (stateAfter n t h) c) (n .facts (stateAfter n t h))
         → P (answersTo m t h) (m .answer (stateAfter m t h) c) (m .facts (stateAfter m t h))
     carry P c p = subst₃ P (sym same-answers) (sym (same-answer c)) (sym same-facts) p

@@ -1,7 +1,7 @@
 -- What an accepted call says of each of its tests, looked up by the paper's number. Assumes nothing.
 use mathlib.Core.Path.{_≡_, refl}
 use mathlib.Core.Bool.{Bool, true, false, cond, _&&_}
-use mathlib.Core.List.{List, [], _∷_}
+use mathlib.Core.List.{List, [], _∷_, _++_}
 use Prim.Native.Nat.{ℕ, _≤_}
 use native.Mathlib.Omega.{arith}
 use lib.Dec.{T, leb, eqb}
@@ -27,3 +27,22 @@ clear (x ∷ ts) h e n =
     go true m l rest f c = let z : ⊥ = omega arith in absurd z
     go false m l rest f true = refl
     go false m l rest f false = rest f
+
+-- two lists, one after the other: the first turns the call down, or the second decides
+pub refused-first : (xs ys : List Test) (n : ℕ) → n ≡ firstOf xs → (n ≡ 0 → ⊥) → n ≡ firstOf (xs ++ ys)
+refused-first [] ys n e some = absurd (some e)
+refused-first (x ∷ xs) ys n e some = go (x .fits) (λ h. refused-first xs ys n h some) e
+  where
+    go : (f : Bool) → (n ≡ firstOf xs → n ≡ firstOf (xs ++ ys)) → n ≡ cond f (x .number) (firstOf xs) → n ≡ cond f (x .number) (firstOf (xs ++ ys))
+    go true rest h = h
+    go false rest h = rest h
+
+pub refused-later : (xs ys : List Test) (m : ℕ) → T (numbered xs) → 0 ≡ firstOf xs → m ≡ firstOf ys → m ≡ firstOf (xs ++ ys)
+refused-later [] ys m ok none e = e
+refused-later (x ∷ xs) ys m ok none e =
+    let h = yes-T _ ok in
+    go (x .fits) (le-yes 1 (x .number) (and-left (leb 1 (x .number)) (numbered xs) h)) (λ f. refused-later xs ys m (T-yes (and-right (leb 1 (x .number)) (numbered xs) h)) f e) none
+  where
+    go : (f : Bool) → 1 ≤ x .number → (0 ≡ firstOf xs → m ≡ firstOf (xs ++ ys)) → 0 ≡ cond f (x .number) (firstOf xs) → m ≡ cond f (x .number) (firstOf (xs ++ ys))
+    go true l rest h = let z : ⊥ = omega arith in absurd z
+    go false l rest h = rest h

@@ -1,14 +1,15 @@
 -- Rows stay in order and apart: put in, put in place of another, taken out, rated anew. Assumes nothing.
-use mathlib.Core.Path.{_≡_, refl, sym}
+use mathlib.Core.Path.{_≡_, sym}
 use mathlib.Core.Logic.{_≢_}
-use mathlib.Core.Bool.{Bool, true, false, cond}
+use mathlib.Core.Bool.{Bool, true, false}
 use mathlib.Core.List.{List, [], _∷_, map}
 use Prim.Native.Nat.{_<_, _≤_}
 use native.Mathlib.Omega.{arith}
 use lib.Dec.{leb, ltb, eqb}
+use Rattle.limits.specs.Limits.{lastDay}
 use Rattle.basics.specs.Lists.{All}
 use Rattle.basics.proofs.Tests.{either, and-left, and-right, yes-le, lt-no, lt-yes, eq-yes, yes-eq, eq-no, or-no-left, or-no-right, or-yes, and-no, le-no}
-use Rattle.basics.proofs.Lists.{all-map}
+use Rattle.basics.proofs.Lists.{all-map, all-both}
 use Rattle.rates.specs.declared.Bill.{Bill}
 use Rattle.model.specs.declared.Row.{Row}
 use Rattle.model.specs.Calls.{sharing}
@@ -17,7 +18,7 @@ use Rattle.model.specs.Ledger.{insert, remove, replace, sortsAfter}
 
 pub record Span (x : Row) : Type 0 where
   pub days : x .bill .first ≤ x .bill .last
-  pub short : x .bill .last ≤ 851
+  pub short : x .bill .last ≤ lastDay
 
 before-trans : (x y z : Row) → Span y → before x y → before y z → before x z
 unfolding before
@@ -58,74 +59,46 @@ module _ (r x : Row) (p : Span r) (q : Span x) (e : sharing (r .bill .contract) 
 
 pub all-insert : (P : Row → Type 0) (r : Row) (xs : List Row) → P r → All P xs → All P (insert r xs)
 all-insert P r [] p a = (p, tt)
-all-insert P r (x ∷ xs) p a = go (sortsAfter (x .bill) (r .bill)) (all-insert P r xs p (a .1))
-  where
-    go : (b : Bool) → All P (insert r xs) → All P (cond b (r ∷ x ∷ xs) (x ∷ insert r xs))
-    go true t = (p, a)
-    go false t = (a .0, t)
+all-insert P r (x ∷ xs) p a = either (sortsAfter (x .bill) (r .bill)) (λ e. rw e (p, a)) (λ e. rw e (a .0, all-insert P r xs p (a .1)))
 
-pub record Fit (r x : Row) : Type 0 where
+-- of two rows the one that sorts after the other comes after it
+pub record ApartFrom (r x : Row) : Type 0 where
   pub span : Span x
   pub left : sortsAfter (x .bill) (r .bill) ≡ false → before x r
   pub right : sortsAfter (x .bill) (r .bill) ≡ true → before r x
 
-pub apart-insert : (r : Row) (xs : List Row) → All (Fit r) xs → Apart xs → Apart (insert r xs)
+pub apart-insert : (r : Row) (xs : List Row) → All (ApartFrom r) xs → Apart xs → Apart (insert r xs)
 apart-insert r [] f a = (tt, tt)
-apart-insert r (x ∷ xs) f a = go (sortsAfter (x .bill) (r .bill)) refl (apart-insert r xs (f .1) (a .1))
-  where
-    go : (b : Bool) → sortsAfter (x .bill) (r .bill) ≡ b → Apart (insert r xs) → Apart (cond b (r ∷ x ∷ xs) (x ∷ insert r xs))
-    go true e t = ((f .0 .right e, all-map (before x) (before r) (λ y h. before-trans r x y (f .0 .span) (f .0 .right e) h) xs (a .0)), a)
-    go false e t = (all-insert (before x) r xs (f .0 .left e) (a .0), t)
+apart-insert r (x ∷ xs) f a = either (sortsAfter (x .bill) (r .bill))
+    (λ e. rw e ((f .0 .right e, all-map (before x) (before r) (λ y h. before-trans r x y (f .0 .span) (f .0 .right e) h) xs (a .0)), a))
+    (λ e. rw e (all-insert (before x) r xs (f .0 .left e) (a .0), apart-insert r xs (f .1) (a .1)))
 
 -- ---- taken out
 
 pub all-remove : (P : Row → Type 0) (p : Bill → Bool) (xs : List Row) → All P xs → All P (remove p xs)
 all-remove P p [] a = tt
-all-remove P p (x ∷ xs) a = go (p (x .bill)) (all-remove P p xs (a .1))
-  where
-    go : (b : Bool) → All P (remove p xs) → All P (cond b xs (x ∷ remove p xs))
-    go true t = a .1
-    go false t = (a .0, t)
+all-remove P p (x ∷ xs) a = either (p (x .bill)) (λ e. rw e (a .1)) (λ e. rw e (a .0, all-remove P p xs (a .1)))
 
 pub apart-remove : (p : Bill → Bool) (xs : List Row) → Apart xs → Apart (remove p xs)
 apart-remove p [] a = tt
-apart-remove p (x ∷ xs) a = go (p (x .bill)) (apart-remove p xs (a .1))
-  where
-    go : (b : Bool) → Apart (remove p xs) → Apart (cond b xs (x ∷ remove p xs))
-    go true t = a .1
-    go false t = (all-remove (before x) p xs (a .0), t)
+apart-remove p (x ∷ xs) a = either (p (x .bill)) (λ e. rw e (a .1)) (λ e. rw e (all-remove (before x) p xs (a .0), apart-remove p xs (a .1)))
 
 -- ---- put in place of another that starts on the same day
-
-pub all-replace : (P : Row → Type 0) (p : Bill → Bool) (r : Row) (xs : List Row) → P r → All P xs → All P (replace p r xs)
-all-replace P p r [] h a = tt
-all-replace P p r (x ∷ xs) h a = go (p (x .bill)) (all-replace P p r xs h (a .1))
-  where
-    go : (b : Bool) → All P (replace p r xs) → All P (cond b (r ∷ xs) (x ∷ replace p r xs))
-    go true t = (h, a .1)
-    go false t = (a .0, t)
 
 -- what comes before a row, or after it, comes so before and after the one in its place
 all-replace-named : (P : Row → Type 0) (p : Bill → Bool) (r : Row) → ((x : Row) → p (x .bill) ≡ true → P x → P r) → (xs : List Row) → All P xs → All P (replace p r xs)
 all-replace-named P p r f [] a = tt
-all-replace-named P p r f (x ∷ xs) a = go (p (x .bill)) refl (all-replace-named P p r f xs (a .1))
-  where
-    go : (b : Bool) → p (x .bill) ≡ b → All P (replace p r xs) → All P (cond b (r ∷ xs) (x ∷ replace p r xs))
-    go true e t = (f x e (a .0), a .1)
-    go false e t = (a .0, t)
+all-replace-named P p r f (x ∷ xs) a = either (p (x .bill)) (λ e. rw e (f x e (a .0), a .1)) (λ e. rw e (a .0, all-replace-named P p r f xs (a .1)))
+
+pub all-replace : (P : Row → Type 0) (p : Bill → Bool) (r : Row) (xs : List Row) → P r → All P xs → All P (replace p r xs)
+all-replace P p r xs h a = all-replace-named P p r (λ x e q. h) xs a
 
 pub apart-replace : (P : Row → Type 0) (p : Bill → Bool) (r : Row) → ((y x : Row) → p (x .bill) ≡ true → before y x → before y r)
     → ((x z : Row) → P x → P z → p (x .bill) ≡ true → before x z → before r z) → (xs : List Row) → All P xs → Apart xs → Apart (replace p r xs)
 apart-replace P p r f g [] k a = tt
-apart-replace P p r f g (x ∷ xs) k a = go (p (x .bill)) refl (apart-replace P p r f g xs (k .1) (a .1))
-  where
-    pairs : (zs : List Row) → p (x .bill) ≡ true → All P zs → All (before x) zs → All (before r) zs
-    pairs [] e k′ a = tt
-    pairs (z ∷ zs) e k′ a = (g x z (k .0) (k′ .0) e (a .0), pairs zs e (k′ .1) (a .1))
-
-    go : (b : Bool) → p (x .bill) ≡ b → Apart (replace p r xs) → Apart (cond b (r ∷ xs) (x ∷ replace p r xs))
-    go true e t = (pairs xs e (k .1) (a .0), a .1)
-    go false e t = (all-replace-named (before x) p r (λ y h k. f x y h k) xs (a .0), t)
+apart-replace P p r f g (x ∷ xs) k a = either (p (x .bill))
+    (λ e. rw e (all-map _ (before r) (λ z h. g x z (k .0) (h .0) e (h .1)) xs (all-both P (before x) xs (k .1) (a .0)), a .1))
+    (λ e. rw e (all-replace-named (before x) p r (λ y h q. f x y h q) xs (a .0), apart-replace P p r f g xs (k .1) (a .1)))
 
 -- ---- rated anew: the bills stay
 

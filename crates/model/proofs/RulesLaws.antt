@@ -3,13 +3,15 @@ use mathlib.Core.Path.{_≡_}
 use mathlib.Core.Bool.{true, false, not, _&&_}
 use mathlib.Core.List.{List}
 use Prim.Native.Nat.{ℕ, _<_, _≤_}
+use Rattle.limits.specs.Limits.{lastDay, rowCount, mostClaims}
 use Rattle.rates.specs.declared.Contract.{Contract}
 use Rattle.rates.specs.declared.Bill.{Bill}
+use Rattle.rates.proofs.WithinCaps.{highestAmount}
 use Rattle.model.specs.Codes.{opening, certify}
 use Rattle.model.specs.Contracts.{contractAt, isOpen}
-use Rattle.model.specs.declared.Call.{Call as Made}
+use Rattle.model.specs.declared.Call.{Call}
 use Rattle.model.specs.declared.Request.{Request}
-use Rattle.model.specs.Calls.{View, named, sharing, requestedBill, asked}
+use Rattle.model.specs.Calls.{View, named, sharing, requestedBill, _with_}
 use Rattle.model.specs.Rules.{Rules, refusal}
 
 pub record Taken (R : Rules) (v : View) (b : Request) (book : List ℕ) : Type 0 where
@@ -29,19 +31,19 @@ pub record Certified (R : Rules) (v : View) (c class effective : ℕ) : Type 0 w
 
 pub record RulesLaws (R : Rules) : Type 0 where
   -- accepted calls
-  pub opens : (v : View) (c fuel kind fix entry : ℕ) (book : List ℕ) → refusal R v (asked (Made.Open c fuel kind fix entry) book) ≡ 0 → Opened R v c (opening fuel kind fix entry)
-  pub bills : (v : View) (b : Request) (book : List ℕ) → refusal R v (asked (Made.Bill b) book) ≡ 0 → Taken R v b book
-  pub bill-free : (v : View) (b : Request) (book : List ℕ) → refusal R v (asked (Made.Bill b) book) ≡ 0 → v .held (sharing (b .contract) (b .first) (b .last)) ≡ 0
-  pub bill-room : (v : View) (b : Request) (book : List ℕ) → refusal R v (asked (Made.Bill b) book) ≡ 0 → v .held (λ x. true) < 1024
-  pub rebills : (v : View) (b : Request) (book : List ℕ) → refusal R v (asked (Made.Rebill b) book) ≡ 0 → Taken R v b book
-  pub rebill-found : (v : View) (b : Request) (book : List ℕ) → refusal R v (asked (Made.Rebill b) book) ≡ 0 → 0 < v .held (named (b .contract) (b .first))
-  pub rebill-free : (v : View) (b : Request) (book : List ℕ) → refusal R v (asked (Made.Rebill b) book) ≡ 0 → v .held (λ x. sharing (b .contract) (b .first) (b .last) x && not (named (b .contract) (b .first) x)) ≡ 0
-  pub certs : (v : View) (c class effective : ℕ) (book : List ℕ) → refusal R v (asked (Made.Cert c class effective) book) ≡ 0 → Certified R v c class effective
-  pub cancel-found : (v : View) (c first : ℕ) (book : List ℕ) → refusal R v (asked (Made.Cancel c first) book) ≡ 0 → 0 < v .held (named c first)
-  pub claims : (v : View) (book : List ℕ) → refusal R v (asked Made.Claim book) ≡ 0 → v .claims < 1000
-  pub totals : (v : View) (book : List ℕ) → refusal R v (asked Made.Total book) ≡ 0
+  pub opens : (v : View) (c fuel kind fix entry : ℕ) (book : List ℕ) → refusal R v (Call.Open c fuel kind fix entry with book) ≡ 0 → Opened R v c (opening fuel kind fix entry)
+  pub bills : (v : View) (b : Request) (book : List ℕ) → refusal R v (Call.Bill b with book) ≡ 0 → Taken R v b book
+  pub bill-free : (v : View) (b : Request) (book : List ℕ) → refusal R v (Call.Bill b with book) ≡ 0 → v .held (sharing (b .contract) (b .first) (b .last)) ≡ 0
+  pub bill-room : (v : View) (b : Request) (book : List ℕ) → refusal R v (Call.Bill b with book) ≡ 0 → v .held (λ x. true) < rowCount
+  pub rebills : (v : View) (b : Request) (book : List ℕ) → refusal R v (Call.Rebill b with book) ≡ 0 → Taken R v b book
+  pub rebill-found : (v : View) (b : Request) (book : List ℕ) → refusal R v (Call.Rebill b with book) ≡ 0 → 0 < v .held (named (b .contract) (b .first))
+  pub rebill-free : (v : View) (b : Request) (book : List ℕ) → refusal R v (Call.Rebill b with book) ≡ 0 → v .held (λ x. sharing (b .contract) (b .first) (b .last) x && not (named (b .contract) (b .first) x)) ≡ 0
+  pub certs : (v : View) (c class effective : ℕ) (book : List ℕ) → refusal R v (Call.Cert c class effective with book) ≡ 0 → Certified R v c class effective
+  pub cancel-found : (v : View) (c first : ℕ) (book : List ℕ) → refusal R v (Call.Cancel c first with book) ≡ 0 → 0 < v .held (named c first)
+  pub claims : (v : View) (book : List ℕ) → refusal R v (Call.Claim with book) ≡ 0 → v .claims < mostClaims
+  pub totals : (v : View) (book : List ℕ) → refusal R v (Call.Total with book) ≡ 0
   -- ranges: of days, of amounts, and whatever the certificate
-  pub days : (k : Contract) (b : Bill) → R .billOk k b ≡ true → (b .first ≤ b .last) × (b .last ≤ 851)
-  pub low : (k : Contract) (b : Bill) → R .billOk k b ≡ true → R .amount k b ≤ 1000000000000000
+  pub days : (k : Contract) (b : Bill) → R .billOk k b ≡ true → (b .first ≤ b .last) × (b .last ≤ lastDay)
+  pub low : (k : Contract) (b : Bill) → R .billOk k b ≡ true → R .amount k b ≤ highestAmount
   pub any-cert : (k : Contract) (class effective : ℕ) (b : Bill) → R .billOk k b ≡ true → R .billOk (certify k class effective) b ≡ true
   pub capped : (k : Contract) (b : Bill) → R .billOk k b ≡ true → R .amount k b ≤ R .most k b

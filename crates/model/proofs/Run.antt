@@ -6,7 +6,7 @@ use Rattle.model.specs.Contracts.{contractAt, isOpen, putContract}
 use Rattle.model.specs.Book.{reference}
 use Rattle.model.specs.Calls.{named, sharing, requestedBill}
 use Rattle.model.specs.Rules.{refusal}
-use Rattle.model.specs.Document01.{badBook, badKind, badDays, badEffective, badSpan, badAmounts, noPrice, tests}
+use Rattle.model.specs.PresentRules.{badBook, badKind, badDays, badEffective, badSpan, badAmounts, noPrice, tests}
 use Rattle.model.specs.Ledger.{fresh, view, sortsAfter, due, priced, rerated, accept, outcome, step, answer}
 use Rattle.model.specs.History.{answersTo}
 use Rattle.model.specs.Run.{zeroBook, runCalls, runAnswers, TheRun}

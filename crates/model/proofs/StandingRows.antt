@@ -9,11 +9,11 @@ use Rattle.basics.specs.Lists.{count}
 use Rattle.basics.proofs.Tests.{and-left, and-right, and-yes, eq-yes, yes-eq}
 use Rattle.rates.specs.declared.Bill.{Bill}
 use Rattle.model.specs.declared.Row.{Row}
-use Rattle.model.specs.Rules.{Rules, partOfDue}
-use Rattle.model.specs.Ledger.{Ledger, priced}
+use Rattle.model.specs.Rules.{Rules, standingRow}
+use Rattle.model.specs.Ledger.{Ledger}
 use Rattle.model.specs.RowNumbers.{numbersOfRow, rowOfNumbers}
 use Rattle.model.specs.Sheet.{Sheet}
-use Rattle.model.proofs.Relation.{Related, rowOf}
+use Rattle.model.proofs.Relation.{Related}
 
 -- two lists of the same numbers
 abbrev same : List ℕ → List ℕ → Bool
@@ -57,15 +57,14 @@ module _ {A : Type 0} (p : A → Bool) where
       go true e f h = (x, List·Memᴰ·head refl, e)
       go false e f h = let t = f (omega arith) in (t .0, List·Memᴰ·tail (t .1), t .2)
 
-pub row-of-bill : (R : Rules) (l : Ledger) (s : Sheet) → Related R l s → (b : Bill) → List·Memᴰ b (s .bills) → List·Memᴰ {A = Row} (record { bill = b; amount = partOfDue R (s .contracts) b }) (l .rows)
-unfolding rowOf priced partOfDue
-row-of-bill R l s r b m = rw (equal-path (rowOf R (s .contracts) b) (t .0) (t .2)) (t .1)
+pub row-of-bill : (R : Rules) (l : Ledger) (s : Sheet) → Related R l s → (b : Bill) → List·Memᴰ b (s .bills) → List·Memᴰ (standingRow R (s .contracts) b) (l .rows)
+row-of-bill R l s r b m = rw (equal-path (standingRow R (s .contracts) b) (t .0) (t .2)) (t .1)
   where
     q : Row → Bool
-    q x = equal (rowOf R (s .contracts) b) x
+    q x = equal (standingRow R (s .contracts) b) x
 
-    some-bill : 0 < count (λ c. q (rowOf R (s .contracts) c)) (s .bills)
-    some-bill = counted (λ c. q (rowOf R (s .contracts) c)) b (s .bills) m (equal-refl (rowOf R (s .contracts) b))
+    some-bill : 0 < count (λ c. q (standingRow R (s .contracts) c)) (s .bills)
+    some-bill = counted (λ c. q (standingRow R (s .contracts) c)) b (s .bills) m (equal-refl (standingRow R (s .contracts) b))
 
     t : (x : Row) × List·Memᴰ x (l .rows) × (q x ≡ true)
     t = placed q (l .rows) (omega (arith, some-bill, r .same (λ x. cond (q x) 1 0)))

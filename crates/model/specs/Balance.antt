@@ -3,14 +3,16 @@ use mathlib.Core.Path.{_≡_}
 use mathlib.Core.List.{List, [], _∷_, _++_, List·Memᴰ}
 use Prim.Native.Nat.{ℕ, _<_, _≤_}
 use lib.IntN.{ℤ, pos, _+ℤ_, _*ℤ_}
+use Rattle.limits.specs.Limits.{ticksPerPenny}
 use Rattle.basics.specs.Integers.{sumℤ}
 use Rattle.rates.specs.declared.Bill.{Bill}
 use Rattle.model.specs.declared.Row.{Row}
 use Rattle.model.specs.declared.Answer.{Answer}
 use Rattle.model.specs.declared.Answer.the-variants.{Claimed, Totalled}
-use Rattle.model.specs.Contracts.{contractAt}
-use Rattle.model.specs.Calls.{Call, callTotal, customerAmount, claimPence}
-use Rattle.model.specs.Rules.{Rules, partOfDue}
+use Rattle.model.specs.Contracts.{contractOf}
+use Rattle.model.specs.declared.Call.{Call}
+use Rattle.model.specs.Calls.{CallWithBook, customerAmount, claimPence, _with_}
+use Rattle.model.specs.Rules.{Rules, partOfDue, standingRow}
 use Rattle.model.specs.Sheet.{Sheet, due}
 use Rattle.model.specs.History.{Machine, sheetAfter, stateAfter, answersTo}
 
@@ -22,14 +24,14 @@ pub record Balanced (R : Rules) (sheet : Sheet) (answered : List Answer) (next :
   pub unclaimed : ℤ
   pub total : next ≡ Totalled (due R sheet) unclaimed
   -- 10,000 times the sum of the pence that the claims answered, plus the unclaimed amount, equals due
-  pub claims : pos 10000 *ℤ sumℤ claimPence answered +ℤ unclaimed ≡ pos (due R sheet)
+  pub claims : pos ticksPerPenny *ℤ sumℤ claimPence answered +ℤ unclaimed ≡ pos (due R sheet)
   -- if the last call is an accepted claim, the unclaimed amount is 0 to 9,999
-  pub claimed : (before : List Answer) (pence : ℤ) (rest : ℕ) → answered ≡ before ++ (Claimed pence rest ∷ []) → (u : ℕ) × (unclaimed ≡ pos u) × (u < 10000)
+  pub claimed : (before : List Answer) (pence : ℤ) (rest : ℕ) → answered ≡ before ++ (Claimed pence rest ∷ []) → (u : ℕ) × (unclaimed ≡ pos u) × (u < ticksPerPenny)
   -- for each standing bill the ledger holds its part of due as its amount, and that part is at most what the cap allows
-  pub rows : (b : Bill) → List·Memᴰ b (sheet .bills) → List·Memᴰ {A = Row} (record { bill = b; amount = partOfDue R (sheet .contracts) b }) held
-  pub capped : (b : Bill) → List·Memᴰ b (sheet .bills) → partOfDue R (sheet .contracts) b ≤ R .most (contractAt (sheet .contracts) (b .contract)) b
+  pub rows : (b : Bill) → List·Memᴰ b (sheet .bills) → List·Memᴰ (standingRow R (sheet .contracts) b) held
+  pub capped : (b : Bill) → List·Memᴰ b (sheet .bills) → partOfDue R (sheet .contracts) b ≤ R .most (contractOf (sheet .contracts) b) b
 
 -- demand 3, of a machine: from a fresh ledger of either territory, every list of calls
 abbrev pub EveryHistoryBalances : Rules → Machine → Type 0
-EveryHistoryBalances R m = (territory : ℕ) → territory ≤ 1 → (h : List Call) →
-    Balanced R (sheetAfter R territory h) (answersTo m territory h) (m .answer (stateAfter m territory h) callTotal) (m .facts (stateAfter m territory h) .rows)
+EveryHistoryBalances R m = (territory : ℕ) → territory ≤ 1 → (h : List CallWithBook) →
+    Balanced R (sheetAfter R territory h) (answersTo m territory h) (m .answer (stateAfter m territory h) (Call.Total with [])) (m .facts (stateAfter m territory h) .rows)

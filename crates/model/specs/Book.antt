@@ -2,6 +2,7 @@
 use mathlib.Core.List.{List}
 use Prim.Native.Nat.{ℕ, _+_, _*_}
 use lib.ListN.{getD}
+use Rattle.limits.specs.Limits.{dayCount}
 use Rattle.calendar.specs.Days.{schemeMonth}
 use Rattle.rates.specs.declared.Fuel.{Fuel}
 use Rattle.rates.specs.declared.Kind.{Kind}
@@ -12,7 +13,7 @@ use Rattle.model.specs.Codes.{fuelCode}
 -- the book has 1,740 prices in mils, 0 meaning not published.
 -- Fixed: entry fuel × 852 + price-fix day. Variable: 1,704 + fuel × 12 + month. Index: 1,728 + month. The month is that of the first day
 abbrev pub bookIndex : Fuel → Kind → (first : ℕ) → ℕ
-bookIndex fuel (Fixed fix entry) first = fuelCode fuel * 852 + fix
+bookIndex fuel (Fixed fix entry) first = fuelCode fuel * dayCount + fix
 bookIndex fuel Variable first = 1704 + fuelCode fuel * 12 + schemeMonth first
 bookIndex fuel Flexible first = 0
 bookIndex fuel Index first = 1728 + schemeMonth first

@@ -11,21 +11,21 @@ use Rattle.basics.specs.Lists.{All}
 use Rattle.rates.specs.declared.Bill.{Bill}
 use Rattle.model.specs.Codes.{opening}
 use Rattle.model.specs.Contracts.{noContracts, putContract}
-use Rattle.model.specs.declared.Call.{Call as Made}
-use Rattle.model.specs.Calls.{Call, callOpen, callCert, callCancel, callClaim, callReport, requestOf, asked}
+use Rattle.model.specs.declared.Call.{Call}
+use Rattle.model.specs.Calls.{CallWithBook, requestOf, _with_}
 use Rattle.model.specs.Rules.{refusal}
-use Rattle.model.specs.Document01.{document01}
+use Rattle.model.specs.PresentRules.{presentRules}
 use Rattle.model.specs.Sheet.{Sheet, view}
 use Rattle.model.specs.Run.{zeroBook}
 
 -- a call made on a sheet, and the number that turns it down
 pub record Boundary : Type 0 where
   pub sheet : Sheet
-  pub call : Call
+  pub call : CallWithBook
   pub number : ℕ
 
 infix 4 _on_gives_
-abbrev pub _on_gives_ : Call → Sheet → ℕ → Boundary
+abbrev pub _on_gives_ : CallWithBook → Sheet → ℕ → Boundary
 c on s gives n = record { sheet = s; call = c; number = n }
 
 -- a standing bill of a contract
@@ -58,116 +58,116 @@ april = replicate 1716 0 ++ (1 ∷ replicate 23 0)
 -- 3: the book isn't 1,740 entries or has one above 999,999
 unfoldable pub atNumber3 : List Boundary
 atNumber3 =
-    (asked (Made.Bill (requestOf 0 486 499 1 1 1)) (replicate 1739 0) on britain gives 3)
-    ∷ (asked (Made.Bill (requestOf 0 486 499 1 1 1)) (replicate 1741 0) on britain gives 3)
-    ∷ (asked (Made.Bill (requestOf 0 486 499 1 1 1)) (1000000 ∷ replicate 1739 0) on britain gives 3)
-    ∷ (asked (Made.Bill (requestOf 0 486 499 1 1 1)) (999999 ∷ replicate 1739 0) on britain gives 0)
+    (Call.Bill (requestOf 0 486 499 1 1 1) with (replicate 1739 0) on britain gives 3)
+    ∷ (Call.Bill (requestOf 0 486 499 1 1 1) with (replicate 1741 0) on britain gives 3)
+    ∷ (Call.Bill (requestOf 0 486 499 1 1 1) with (1000000 ∷ replicate 1739 0) on britain gives 3)
+    ∷ (Call.Bill (requestOf 0 486 499 1 1 1) with (999999 ∷ replicate 1739 0) on britain gives 0)
     ∷ []
 
 -- 4: the contract number is above 63
 unfoldable pub atNumber4 : List Boundary
-atNumber4 = (callOpen 64 0 0 0 0 on britain gives 4) ∷ (callOpen 63 0 0 0 0 on britain gives 0) ∷ []
+atNumber4 = (Call.Open 64 0 0 0 0 with [] on britain gives 4) ∷ (Call.Open 63 0 0 0 0 with [] on britain gives 0) ∷ []
 
 -- 5: the contract is open already (open), or isn't open
 unfoldable pub atNumber5 : List Boundary
-atNumber5 = (callOpen 1 0 0 0 0 on britain gives 5) ∷ (callReport 2 on britain gives 5) ∷ (callReport 1 on britain gives 0) ∷ []
+atNumber5 = (Call.Open 1 0 0 0 0 with [] on britain gives 5) ∷ (Call.Report 2 with [] on britain gives 5) ∷ (Call.Report 1 with [] on britain gives 0) ∷ []
 
 -- 6: a code has no meaning, or kind 3 is given outside its place
 unfoldable pub atNumber6 : List Boundary
 atNumber6 =
-    (callOpen 2 2 0 0 0 on britain gives 6)
-    ∷ (callOpen 2 0 4 0 0 on britain gives 6)
-    ∷ (callOpen 2 0 3 0 0 on britain gives 6)
-    ∷ (callOpen 2 1 3 0 0 on ireland gives 6)
-    ∷ (callOpen 2 0 3 0 0 on ireland gives 0)
-    ∷ (callCert 0 3 511 on britain gives 6)
+    (Call.Open 2 2 0 0 0 with [] on britain gives 6)
+    ∷ (Call.Open 2 0 4 0 0 with [] on britain gives 6)
+    ∷ (Call.Open 2 0 3 0 0 with [] on britain gives 6)
+    ∷ (Call.Open 2 1 3 0 0 with [] on ireland gives 6)
+    ∷ (Call.Open 2 0 3 0 0 with [] on ireland gives 0)
+    ∷ (Call.Cert 0 3 511 with [] on britain gives 6)
     ∷ []
 
 -- 7: a day is wrong
 unfoldable pub atNumber7 : List Boundary
 atNumber7 =
-    (callOpen 2 0 0 852 0 on britain gives 7)
-    ∷ (callOpen 2 0 0 0 852 on britain gives 7)
-    ∷ (callOpen 2 0 0 851 851 on britain gives 0)
-    ∷ (callOpen 2 0 1 1 0 on britain gives 7)
-    ∷ (callOpen 2 0 1 0 1 on britain gives 7)
-    ∷ (callCert 0 1 485 on britain gives 7)
-    ∷ (callCert 0 1 486 on britain gives 0)
-    ∷ (callCert 0 1 851 on britain gives 0)
-    ∷ (callCert 0 1 852 on britain gives 7)
-    ∷ (callCert 0 2 510 on britain gives 7)
-    ∷ (callCert 0 2 511 on britain gives 0)
-    ∷ (callCert 0 0 1 on britain gives 7)
-    ∷ (callCert 0 0 0 on britain gives 0)
-    ∷ (asked (Made.Bill (requestOf 0 485 499 1 1 1)) zeroBook on britain gives 7)
-    ∷ (asked (Made.Bill (requestOf 0 486 499 1 1 1)) zeroBook on britain gives 0)
-    ∷ (asked (Made.Bill (requestOf 0 851 852 1 1 1)) zeroBook on britain gives 7)
-    ∷ (asked (Made.Bill (requestOf 0 851 851 1 1 1)) zeroBook on britain gives 0)
-    ∷ (asked (Made.Bill (requestOf 0 499 498 1 1 1)) zeroBook on britain gives 7)
+    (Call.Open 2 0 0 852 0 with [] on britain gives 7)
+    ∷ (Call.Open 2 0 0 0 852 with [] on britain gives 7)
+    ∷ (Call.Open 2 0 0 851 851 with [] on britain gives 0)
+    ∷ (Call.Open 2 0 1 1 0 with [] on britain gives 7)
+    ∷ (Call.Open 2 0 1 0 1 with [] on britain gives 7)
+    ∷ (Call.Cert 0 1 485 with [] on britain gives 7)
+    ∷ (Call.Cert 0 1 486 with [] on britain gives 0)
+    ∷ (Call.Cert 0 1 851 with [] on britain gives 0)
+    ∷ (Call.Cert 0 1 852 with [] on britain gives 7)
+    ∷ (Call.Cert 0 2 510 with [] on britain gives 7)
+    ∷ (Call.Cert 0 2 511 with [] on britain gives 0)
+    ∷ (Call.Cert 0 0 1 with [] on britain gives 7)
+    ∷ (Call.Cert 0 0 0 with [] on britain gives 0)
+    ∷ (Call.Bill (requestOf 0 485 499 1 1 1) with zeroBook on britain gives 7)
+    ∷ (Call.Bill (requestOf 0 486 499 1 1 1) with zeroBook on britain gives 0)
+    ∷ (Call.Bill (requestOf 0 851 852 1 1 1) with zeroBook on britain gives 7)
+    ∷ (Call.Bill (requestOf 0 851 851 1 1 1) with zeroBook on britain gives 0)
+    ∷ (Call.Bill (requestOf 0 499 498 1 1 1) with zeroBook on britain gives 7)
     ∷ []
 
 -- 8: kWh is above 100,000,000, S or WAP above 999,999, or a WAP not 0 where it must be
 unfoldable pub atNumber8 : List Boundary
 atNumber8 =
-    (asked (Made.Bill (requestOf 0 486 499 100000001 1 1)) zeroBook on britain gives 8)
-    ∷ (asked (Made.Bill (requestOf 0 486 499 1 1000000 1)) zeroBook on britain gives 8)
-    ∷ (asked (Made.Bill (requestOf 0 486 499 1 1 1000000)) zeroBook on britain gives 8)
-    ∷ (asked (Made.Bill (requestOf 0 486 499 100000000 999999 999999)) zeroBook on britain gives 0)
-    ∷ (asked (Made.Bill (requestOf 1 486 515 1 1 1)) april on britain gives 8)
+    (Call.Bill (requestOf 0 486 499 100000001 1 1) with zeroBook on britain gives 8)
+    ∷ (Call.Bill (requestOf 0 486 499 1 1000000 1) with zeroBook on britain gives 8)
+    ∷ (Call.Bill (requestOf 0 486 499 1 1 1000000) with zeroBook on britain gives 8)
+    ∷ (Call.Bill (requestOf 0 486 499 100000000 999999 999999) with zeroBook on britain gives 0)
+    ∷ (Call.Bill (requestOf 1 486 515 1 1 1) with april on britain gives 8)
     ∷ []
 
 -- 9: no row of that contract has that first day
 unfoldable pub atNumber9 : List Boundary
 atNumber9 =
-    (callCancel 0 501 on britain gives 9)
-    ∷ (callCancel 1 500 on britain gives 9)
-    ∷ (callCancel 0 500 on britain gives 0)
-    ∷ (asked (Made.Rebill (requestOf 0 501 501 1 1 1)) zeroBook on britain gives 9)
+    (Call.Cancel 0 501 with [] on britain gives 9)
+    ∷ (Call.Cancel 1 500 with [] on britain gives 9)
+    ∷ (Call.Cancel 0 500 with [] on britain gives 0)
+    ∷ (Call.Rebill (requestOf 0 501 501 1 1 1) with zeroBook on britain gives 9)
     ∷ []
 
 -- 10: another row of the contract shares a day with the span
 unfoldable pub atNumber10 : List Boundary
 atNumber10 =
-    (asked (Made.Bill (requestOf 0 510 599 1 1 1)) zeroBook on britain gives 10)
-    ∷ (asked (Made.Bill (requestOf 0 511 600 1 1 1)) zeroBook on britain gives 10)
-    ∷ (asked (Made.Bill (requestOf 0 511 599 1 1 1)) zeroBook on britain gives 0)
-    ∷ (asked (Made.Rebill (requestOf 0 500 600 1 1 1)) zeroBook on britain gives 10)
-    ∷ (asked (Made.Rebill (requestOf 0 500 599 1 1 1)) zeroBook on britain gives 0)
+    (Call.Bill (requestOf 0 510 599 1 1 1) with zeroBook on britain gives 10)
+    ∷ (Call.Bill (requestOf 0 511 600 1 1 1) with zeroBook on britain gives 10)
+    ∷ (Call.Bill (requestOf 0 511 599 1 1 1) with zeroBook on britain gives 0)
+    ∷ (Call.Rebill (requestOf 0 500 600 1 1 1) with zeroBook on britain gives 10)
+    ∷ (Call.Rebill (requestOf 0 500 599 1 1 1) with zeroBook on britain gives 0)
     ∷ []
 
 -- 11: the book's price needed is 0; a flexible contract needs none
 unfoldable pub atNumber11 : List Boundary
 atNumber11 =
-    (asked (Made.Bill (requestOf 1 516 545 1 1 0)) april on britain gives 11)
-    ∷ (asked (Made.Bill (requestOf 1 515 515 1 1 0)) april on britain gives 0)
-    ∷ (asked (Made.Bill (requestOf 0 486 499 1 1 0)) zeroBook on britain gives 0)
+    (Call.Bill (requestOf 1 516 545 1 1 0) with april on britain gives 11)
+    ∷ (Call.Bill (requestOf 1 515 515 1 1 0) with april on britain gives 0)
+    ∷ (Call.Bill (requestOf 0 486 499 1 1 0) with zeroBook on britain gives 0)
     ∷ []
 
 -- 12: 1,024 rows are held already
 unfoldable pub atNumber12 : List Boundary
-atNumber12 = (asked (Made.Bill (requestOf 0 486 499 1 1 1)) zeroBook on holding 1024 gives 12) ∷ (asked (Made.Bill (requestOf 0 486 499 1 1 1)) zeroBook on holding 1023 gives 0) ∷ []
+atNumber12 = (Call.Bill (requestOf 0 486 499 1 1 1) with zeroBook on holding 1024 gives 12) ∷ (Call.Bill (requestOf 0 486 499 1 1 1) with zeroBook on holding 1023 gives 0) ∷ []
 
 -- 13: 1,000 claims were made already
 unfoldable pub atNumber13 : List Boundary
-atNumber13 = (callClaim on claiming 1000 gives 13) ∷ (callClaim on claiming 999 gives 0) ∷ []
+atNumber13 = (Call.Claim with [] on claiming 1000 gives 13) ∷ (Call.Claim with [] on claiming 999 gives 0) ∷ []
 
 -- calls that two tests or more turn down: the number is the first in checking order
 unfoldable pub inCheckingOrder : List Boundary
 inCheckingOrder =
-    (asked (Made.Bill (requestOf 64 486 499 1 1 1)) (replicate 1739 0) on britain gives 3)
-    ∷ (callOpen 64 2 0 0 0 on britain gives 4)
-    ∷ (callOpen 1 2 0 0 0 on britain gives 5)
-    ∷ (callOpen 2 2 0 852 0 on britain gives 6)
-    ∷ (asked (Made.Bill (requestOf 0 485 499 100000001 1 1)) zeroBook on britain gives 7)
-    ∷ (asked (Made.Rebill (requestOf 0 501 501 100000001 1 1)) zeroBook on britain gives 8)
-    ∷ (asked (Made.Rebill (requestOf 0 501 501 1 1 1)) zeroBook on britain gives 9)
-    ∷ (asked (Made.Bill (requestOf 1 486 486 1 1 0)) zeroBook on holding 1 gives 10)
-    ∷ (asked (Made.Bill (requestOf 1 487 487 1 1 0)) zeroBook on holding 1024 gives 11)
+    (Call.Bill (requestOf 64 486 499 1 1 1) with (replicate 1739 0) on britain gives 3)
+    ∷ (Call.Open 64 2 0 0 0 with [] on britain gives 4)
+    ∷ (Call.Open 1 2 0 0 0 with [] on britain gives 5)
+    ∷ (Call.Open 2 2 0 852 0 with [] on britain gives 6)
+    ∷ (Call.Bill (requestOf 0 485 499 100000001 1 1) with zeroBook on britain gives 7)
+    ∷ (Call.Rebill (requestOf 0 501 501 100000001 1 1) with zeroBook on britain gives 8)
+    ∷ (Call.Rebill (requestOf 0 501 501 1 1 1) with zeroBook on britain gives 9)
+    ∷ (Call.Bill (requestOf 1 486 486 1 1 0) with zeroBook on holding 1 gives 10)
+    ∷ (Call.Bill (requestOf 1 487 487 1 1 0) with zeroBook on holding 1024 gives 11)
     ∷ []
 
 -- the number that turns the call down is the one given
 unfoldable pub asGiven : Boundary → Bool
-asGiven e = eqb (refusal document01 (view (e .sheet)) (e .call)) (e .number)
+asGiven e = eqb (refusal presentRules (view (e .sheet)) (e .call)) (e .number)
 
 abbrev pub AtTheBoundaries : Type 0
 AtTheBoundaries = All

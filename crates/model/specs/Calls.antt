@@ -1,51 +1,28 @@
 -- Document 01, "Calls": the calls of a history, what they answer, and what the refusals read. Assumes nothing.
 use mathlib.Core.Bool.{Bool, cond, _&&_}
 use mathlib.Core.List.{List, [], _∷_}
-use Prim.Native.Nat.{ℕ}
+use Prim.Native.Nat.{ℕ, zero, suc}
 use lib.Dec.{leb, eqb}
 use lib.IntN.{ℤ, pos}
+use lib.ListN.{length}
 use Rattle.rates.specs.declared.Contract.{Contract}
 use Rattle.rates.specs.declared.Bill.{Bill}
 use Rattle.model.specs.declared.Request.{Request}
-use Rattle.model.specs.declared.Call.{Call as Made}
+use Rattle.model.specs.declared.Call.{Call}
 use Rattle.model.specs.declared.Answer.{Answer}
 use Rattle.model.specs.declared.Answer.the-variants.{Refused, Done, Billed, Rebilled, Certified, Cancelled, Claimed, Reported, Totalled}
-use Rattle.model.specs.declared.Told.{Told}
+use Rattle.model.specs.declared.Reply.{Reply}
 use Rattle.model.specs.Contracts.{Contracts, contractAt}
 use Rattle.model.specs.Book.{reference}
 
--- a call of a history, with the book that it is made with
-pub data Call : Type 0 where
-  asked : Made → (book : List ℕ) → Call
+-- a call of a history, with the book that it brings
+infix 6 _with_
+pub data CallWithBook : Type 0 where
+  _with_ : Call → (book : List ℕ) → CallWithBook
 
 -- the numbers of a bill or rebill in the paper's order
 abbrev pub requestOf : (contract first last kwh supply wap : ℕ) → Request
 requestOf contract first last kwh supply wap = record { contract = contract; first = first; last = last; kwh = kwh; supply = supply; wap = wap }
-
--- the calls that read no book, each with none
-abbrev pub callOpen : (contract fuel kind priceFixDay entryDay : ℕ) → Call
-callOpen c fuel kind fix entry = asked (Made.Open c fuel kind fix entry) []
-
-abbrev pub callBill : Request → (book : List ℕ) → Call
-callBill q book = asked (Made.Bill q) book
-
-abbrev pub callRebill : Request → (book : List ℕ) → Call
-callRebill q book = asked (Made.Rebill q) book
-
-abbrev pub callCert : (contract class effectiveDay : ℕ) → Call
-callCert c class effective = asked (Made.Cert c class effective) []
-
-abbrev pub callCancel : (contract first : ℕ) → Call
-callCancel c first = asked (Made.Cancel c first) []
-
-abbrev pub callClaim : Call
-callClaim = asked Made.Claim []
-
-abbrev pub callReport : (contract : ℕ) → Call
-callReport c = asked (Made.Report c) []
-
-abbrev pub callTotal : Call
-callTotal = asked Made.Total []
 
 -- ---- answers
 
@@ -61,37 +38,42 @@ refusalNumber (Claimed pence rest) = 0
 refusalNumber (Reported rows kwh due) = 0
 refusalNumber (Totalled due unclaimed) = 0
 
--- the paper's values of an answer, in its order, zeros after them to three: a refusal gives zeros
+-- the paper's values of an answer, in its order: a refusal has none
+abbrev pub valuesOf : Answer → List ℤ
+valuesOf (Refused n) = []
+valuesOf Done = []
+valuesOf (Billed r rate amount) = pos r ∷ pos rate ∷ pos amount ∷ []
+valuesOf (Rebilled r rate change) = pos r ∷ pos rate ∷ change ∷ []
+valuesOf (Certified change rows) = change ∷ pos rows ∷ []
+valuesOf (Cancelled change) = change ∷ []
+valuesOf (Claimed pence rest) = pence ∷ pos rest ∷ []
+valuesOf (Reported rows kwh due) = pos rows ∷ pos kwh ∷ pos due ∷ []
+valuesOf (Totalled due unclaimed) = pos due ∷ unclaimed ∷ []
+
+-- no answer has more values
+abbrev pub answerNumbers : ℕ
+answerNumbers = 3
+
+-- the first n values, zeros after them to n
+abbrev pub padded : ℕ → List ℤ → List ℤ
+padded zero vs = []
+padded (suc n) [] = pos 0 ∷ padded n []
+padded (suc n) (v ∷ vs) = v ∷ padded n vs
+
+-- the reply by the number of a refusal and the values
+abbrev pub replyOfValues : ℕ → List ℤ → Reply
+replyOfValues n vs = record { refused = n; count = length vs; numbers = padded answerNumbers vs }
+
+-- the reply of an answer; and one without numbers: a refusal by its number, which is 0 where nothing is answered but ok
+abbrev pub replyOf : Answer → Reply
+replyOf a = replyOfValues (refusalNumber a) (valuesOf a)
+
+abbrev pub replyWithoutNumbers : ℕ → Reply
+replyWithoutNumbers n = replyOfValues n []
+
+-- the values that are given of an answer: a refusal gives zeros
 abbrev pub answerValues : Answer → List ℤ
-answerValues (Refused n) = pos 0 ∷ pos 0 ∷ pos 0 ∷ []
-answerValues Done = pos 0 ∷ pos 0 ∷ pos 0 ∷ []
-answerValues (Billed r rate amount) = pos r ∷ pos rate ∷ pos amount ∷ []
-answerValues (Rebilled r rate change) = pos r ∷ pos rate ∷ change ∷ []
-answerValues (Certified change rows) = change ∷ pos rows ∷ pos 0 ∷ []
-answerValues (Cancelled change) = change ∷ pos 0 ∷ pos 0 ∷ []
-answerValues (Claimed pence rest) = pence ∷ pos rest ∷ pos 0 ∷ []
-answerValues (Reported rows kwh due) = pos rows ∷ pos kwh ∷ pos due ∷ []
-answerValues (Totalled due unclaimed) = pos due ∷ unclaimed ∷ pos 0 ∷ []
-
--- how many of them the paper has for the answer
-abbrev pub valueCount : Answer → ℕ
-valueCount (Refused n) = 0
-valueCount Done = 0
-valueCount (Billed r rate amount) = 3
-valueCount (Rebilled r rate change) = 3
-valueCount (Certified change rows) = 2
-valueCount (Cancelled change) = 1
-valueCount (Claimed pence rest) = 2
-valueCount (Reported rows kwh due) = 3
-valueCount (Totalled due unclaimed) = 2
-
--- what is told of an answer
-abbrev pub toldOf : Answer → Told
-toldOf a = record { refused = refusalNumber a; count = valueCount a; numbers = answerValues a }
-
--- a refusal by its number, which is 0 where nothing is answered but ok
-abbrev pub toldNumber : ℕ → Told
-toldNumber n = record { refused = n; count = 0; numbers = pos 0 ∷ pos 0 ∷ pos 0 ∷ [] }
+answerValues a = replyOf a .numbers
 
 -- the customer's signed amount: the amount of bill, and the differences of rebill, cert and cancel, zero where refused
 abbrev pub customerAmount : Answer → ℤ

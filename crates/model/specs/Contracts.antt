@@ -7,6 +7,7 @@ use Rattle.rates.specs.declared.Fuel.the-variants.{Electricity}
 use Rattle.rates.specs.declared.Kind.the-variants.{Variable}
 use Rattle.rates.specs.declared.Certificate.the-variants.{None}
 use Rattle.rates.specs.declared.Contract.{Contract}
+use Rattle.rates.specs.declared.Bill.{Bill}
 
 -- none where the number isn't open
 abbrev pub Contracts : Type 0
@@ -22,6 +23,10 @@ contractIn (some k) = k
 
 unfoldable pub contractAt : Contracts → ℕ → Contract
 contractAt cs c = contractIn (cs c)
+
+-- a bill's contract, as the contracts then stand
+abbrev pub contractOf : Contracts → Bill → Contract
+contractOf cs b = contractAt cs (b .contract)
 
 abbrev pub isThere : Option Contract → Bool
 isThere none = false

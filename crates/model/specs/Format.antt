@@ -1,9 +1,8 @@
 -- A ledger kept in a format: what a call on its bytes answers and leaves, for any bytes. Assumes nothing.
 use mathlib.Core.Path.{_≡_}
 use mathlib.Core.Bool.{Bool, true, cond}
-use Prim.Native.Nat.{ℕ, zero, suc}
 use Rattle.model.specs.declared.Answer.the-variants.{Refused}
-use Rattle.model.specs.Rules.{Rules, refusal}
+use Rattle.model.specs.Rules.{Rules, refusal, unlessRefused}
 use Rattle.model.specs.Ledger.{Ledger, fresh, view, step, answer}
 use Rattle.model.specs.WellFormed.{WellFormed}
 use Rattle.model.specs.History.{Machine}
@@ -15,12 +14,7 @@ pub record Format : Type 1 where
   pub unpack : Bytes → Ledger
   pub pack : Ledger → Bytes
 
--- a refused call changes no byte
-abbrev pub unlessRefused : {A : Type 0} → ℕ → A → A → A
-unlessRefused zero new old = new
-unlessRefused (suc n) new old = old
-
--- the machine on bytes
+-- the machine on bytes; a refused call changes no byte
 abbrev pub bytesMachine : Rules → Format → Machine
 bytesMachine R f = record {
   State = f .Bytes;

@@ -6,18 +6,13 @@ use Prim.Native.Nat.{ℕ, _≤_}
 use lib.IntN.{pos}
 use Rattle.basics.specs.Lists.{count}
 use Rattle.basics.specs.Integers.{sumℤ}
-use Rattle.rates.specs.declared.Bill.{Bill}
 use Rattle.model.specs.declared.Row.{Row}
 use Rattle.model.specs.declared.Answer.{Answer}
-use Rattle.model.specs.Calls.{Call, claimPence}
-use Rattle.model.specs.Rules.{Rules, partOfDue}
+use Rattle.model.specs.Calls.{CallWithBook, claimPence}
+use Rattle.model.specs.Rules.{Rules, partOfDue, standingRow}
 use Rattle.model.specs.Ledger.{Ledger}
 use Rattle.model.specs.Sheet.{Sheet}
 use Rattle.model.specs.History.{Machine, sheetAfter, stateAfter, answersTo}
-
--- the row of a standing bill: its amount is its part of due
-abbrev pub standingRow : Rules → Sheet → Bill → Row
-standingRow R s b = record { bill = b; amount = partOfDue R (s .contracts) b }
 
 -- what the sheet after a history, and the answers to its calls, say of the facts held
 pub record HoldsFacts (R : Rules) (sheet : Sheet) (answered : List Answer) (facts : Ledger) : Type 0 where
@@ -25,7 +20,7 @@ pub record HoldsFacts (R : Rules) (sheet : Sheet) (answered : List Answer) (fact
   -- the open contracts with their certificates
   pub contracts : facts .contracts ≡ sheet .contracts
   -- the held rows are the rows of the standing bills, each as often: as many of the ones as of the others pass any test
-  pub rows : (p : Row → Bool) → count p (facts .rows) ≡ count (λ b. p (standingRow R sheet b)) (sheet .bills)
+  pub rows : (p : Row → Bool) → count p (facts .rows) ≡ count (λ b. p (standingRow R (sheet .contracts) b)) (sheet .bills)
   -- so nothing else is held: each held row's bill stands, and its amount is its part of due
   pub standing : (x : Row) → List·Memᴰ x (facts .rows) → List·Memᴰ (x .bill) (sheet .bills) × (x .amount ≡ partOfDue R (sheet .contracts) (x .bill))
   pub claims : facts .claims ≡ sheet .claims
@@ -34,5 +29,5 @@ pub record HoldsFacts (R : Rules) (sheet : Sheet) (answered : List Answer) (fact
 
 -- of a machine: from a fresh ledger of either territory, every list of calls
 abbrev pub EveryHistoryHoldsItsFacts : Rules → Machine → Type 0
-EveryHistoryHoldsItsFacts R m = (territory : ℕ) → territory ≤ 1 → (h : List Call) →
+EveryHistoryHoldsItsFacts R m = (territory : ℕ) → territory ≤ 1 → (h : List CallWithBook) →
     HoldsFacts R (sheetAfter R territory h) (answersTo m territory h) (m .facts (stateAfter m territory h))

@@ -1,9 +1,10 @@
 -- Document 01, "The packed ledger" and "Calls": the ledger's facts, and what each call answers and leaves. Assumes nothing.
 use mathlib.Core.Bool.{Bool, not, cond, _&&_, _||_}
 use mathlib.Core.List.{List, [], _∷_, map}
-use Prim.Native.Nat.{ℕ, zero, suc, _*_, _/_, _%_}
+use Prim.Native.Nat.{ℕ, suc, _*_, _/_, _%_}
 use lib.Dec.{ltb, eqb}
 use lib.IntN.{subℕ}
+use Rattle.limits.specs.Limits.{ticksPerPenny}
 use Rattle.basics.specs.Lists.{total, count}
 use Rattle.rates.specs.declared.Contract.{Contract}
 use Rattle.rates.specs.declared.Bill.{Bill}
@@ -12,9 +13,9 @@ use Rattle.model.specs.declared.Answer.{Answer}
 use Rattle.model.specs.declared.Answer.the-variants.{Refused, Done, Billed, Rebilled, Certified, Cancelled, Claimed, Reported, Totalled}
 use Rattle.model.specs.Codes.{opening, certify}
 use Rattle.model.specs.Contracts.{Contracts, noContracts, contractAt, putContract}
-use Rattle.model.specs.declared.Call.{Call as Made}
-use Rattle.model.specs.Calls.{Call, View, named, requestedBill, asked}
-use Rattle.model.specs.Rules.{Rules, refusal}
+use Rattle.model.specs.declared.Call.{Call}
+use Rattle.model.specs.Calls.{CallWithBook, View, named, requestedBill, _with_}
+use Rattle.model.specs.Rules.{Rules, refusal, unlessRefused}
 
 -- the facts that a ledger holds
 pub record Ledger : Type 0 where
@@ -80,9 +81,8 @@ abbrev pub withRows : Ledger → List Row → Ledger
 withRows l xs = record { territory = l .territory; contracts = l .contracts; rows = xs; claims = l .claims; pence = l .pence }
 
 -- a refused call answers its number and leaves the ledger as it was
-abbrev pub unlessRefused : ℕ → Ledger → Outcome → Outcome
-unlessRefused zero l accepted = accepted
-unlessRefused (suc n) l accepted = record { next = l; answers = Refused (suc n) }
+abbrev pub turnedDown : Ledger → (refusal : ℕ) → Outcome
+turnedDown l n = record { next = l; answers = Refused n }
 
 module _ (R : Rules) where
   -- a row with its amount under the contract
@@ -94,8 +94,8 @@ module _ (R : Rules) where
   rerated c k x = cond (ofContract c x) (priced k (x .bill)) x
 
   -- what each call leaves and answers where nothing turns it down
-  unfoldable pub accept : Ledger → Call → Outcome
-  accept l (asked (Made.Open c fuel kind fix entry) book) = record {
+  unfoldable pub accept : Ledger → CallWithBook → Outcome
+  accept l (Call.Open c fuel kind fix entry with book) = record {
     next = record {
       territory = l .territory;
       contracts = putContract (l .contracts) c (opening fuel kind fix entry);
@@ -105,11 +105,11 @@ module _ (R : Rules) where
     };
     answers = Done;
   }
-  accept l (asked (Made.Bill q) book) =
+  accept l (Call.Bill q with book) =
       let k = contractAt (l .contracts) (q .contract) in
       let b = requestedBill (l .contracts) q book in
       record { next = withRows l (insert (priced k b) (l .rows)); answers = Billed (b .reference) (R .rate k b) (priced k b .amount) }
-  accept l (asked (Made.Rebill q) book) =
+  accept l (Call.Rebill q with book) =
       let k = contractAt (l .contracts) (q .contract) in
       let b = requestedBill (l .contracts) q book in
       let p = named (q .contract) (q .first) in
@@ -117,31 +117,31 @@ module _ (R : Rules) where
         next = withRows l (replace p (priced k b) (l .rows));
         answers = Rebilled (b .reference) (R .rate k b) (subℕ (priced k b .amount) (amountOf p (l .rows)));
       }
-  accept l (asked (Made.Cert c class effective) book) =
+  accept l (Call.Cert c class effective with book) =
       let k = certify (contractAt (l .contracts) c) class effective in
       let xs = map (rerated c k) (l .rows) in
       record {
         next = record { territory = l .territory; contracts = putContract (l .contracts) c k; rows = xs; claims = l .claims; pence = l .pence };
         answers = Certified (subℕ (total (λ x. x .amount) xs) (due l)) (count (λ x. not (eqb (rerated c k x .amount) (x .amount))) (l .rows));
       }
-  accept l (asked (Made.Cancel c first) book) =
+  accept l (Call.Cancel c first with book) =
       record { next = withRows l (remove (named c first) (l .rows)); answers = Cancelled (subℕ 0 (amountOf (named c first) (l .rows))) }
-  accept l (asked Made.Claim book) = record {
-    next = record { territory = l .territory; contracts = l .contracts; rows = l .rows; claims = suc (l .claims); pence = due l / 10000 };
-    answers = Claimed (subℕ (due l / 10000) (l .pence)) (due l % 10000);
+  accept l (Call.Claim with book) = record {
+    next = record { territory = l .territory; contracts = l .contracts; rows = l .rows; claims = suc (l .claims); pence = due l / ticksPerPenny };
+    answers = Claimed (subℕ (due l / ticksPerPenny) (l .pence)) (due l % ticksPerPenny);
   }
-  accept l (asked (Made.Report c) book) = record {
+  accept l (Call.Report c with book) = record {
     next = l;
     answers = Reported (count (ofContract c) (l .rows)) (total (λ x. cond (ofContract c x) (x .bill .kwh) 0) (l .rows)) (total (λ x. cond (ofContract c x) (x .amount) 0) (l .rows));
   }
-  accept l (asked Made.Total book) = record { next = l; answers = Totalled (due l) (subℕ (due l) (10000 * l .pence)) }
+  accept l (Call.Total with book) = record { next = l; answers = Totalled (due l) (subℕ (due l) (ticksPerPenny * l .pence)) }
 
-  unfoldable pub outcome : Ledger → Call → Outcome
-  outcome l c = unlessRefused (refusal R (view l) c) l (accept l c)
+  unfoldable pub outcome : Ledger → CallWithBook → Outcome
+  outcome l c = let n = refusal R (view l) c in unlessRefused n (accept l c) (turnedDown l n)
 
   -- the ledger that a call leaves, and what it answers
-  unfoldable pub step : Ledger → Call → Ledger
+  unfoldable pub step : Ledger → CallWithBook → Ledger
   step l c = outcome l c .next
 
-  unfoldable pub answer : Ledger → Call → Answer
+  unfoldable pub answer : Ledger → CallWithBook → Answer
   answer l c = outcome l c .answers

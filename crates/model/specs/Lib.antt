@@ -1,10 +1,11 @@
 -- Document 01 in mathematics. A reader starts with Codes and goes down the list.
 pub mod Codes
+pub mod ContractNumbers
 pub mod Contracts
 pub mod Book
 pub mod Calls
 pub mod Rules
-pub mod Document01
+pub mod PresentRules
 pub mod Ledger
 pub mod RowNumbers
 pub mod Places
@@ -16,6 +17,6 @@ pub mod Format
 pub mod HoldsFacts
 pub mod SheetAnswers
 pub mod Postings
-pub mod Document01Balance
+pub mod BalanceByRates
 pub mod Run
 pub mod BoundaryExamples

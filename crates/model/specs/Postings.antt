@@ -6,19 +6,19 @@ use mathlib.Core.List.{List, [], _∷_, _++_, map}
 use Prim.Native.Nat.{ℕ, _/_, _<_, _≤_}
 use lib.Dec.{eqb}
 use lib.IntN.{ℤ, pos, negsuc, negℤ, _+ℤ_, _-ℤ_, _*ℤ_}
+use Rattle.limits.specs.Limits.{ticksPerPenny}
 use Rattle.basics.specs.Integers.{sumℤ}
 use Rattle.rates.specs.declared.Bill.{Bill}
 use Rattle.model.specs.declared.Answer.{Answer}
 use Rattle.model.specs.declared.Answer.the-variants.{Refused, Done, Billed, Rebilled, Certified, Cancelled, Claimed, Reported, Totalled}
 use Rattle.model.specs.Codes.{certify}
 use Rattle.model.specs.Contracts.{Contracts, contractAt, putContract}
-use Rattle.model.specs.declared.Call.{Call as Made}
-use Rattle.model.specs.Calls.{Call, named, requestedBill, customerAmount, claimPence, asked}
-use Rattle.model.specs.Rules.{Rules, refusal, partOfDue}
+use Rattle.model.specs.declared.Call.{Call}
+use Rattle.model.specs.Calls.{CallWithBook, named, requestedBill, customerAmount, claimPence, _with_}
+use Rattle.model.specs.Rules.{Rules, refusal, unlessRefused, partOfDue}
 use Rattle.model.specs.Sheet
 use Rattle.model.specs.Sheet.{Sheet, blank, view, strikeOut}
 use Rattle.model.specs.History.{replies, Machine, answersTo}
-use Rattle.model.specs.Format.{unlessRefused}
 
 -- what must stay equal, call by call: the rate answered (0 where the call answers none), the customer's signed amount, a claim's pence
 pub record Figures : Type 0 where
@@ -62,12 +62,12 @@ sumPosted zs = sumℤ (λ z. z) zs
 
 -- floor(z / 10,000); negsuc n is −(n + 1)
 abbrev pub floorPence : ℤ → ℤ
-floorPence (pos n) = pos (n / 10000)
-floorPence (negsuc n) = negsuc (n / 10000)
+floorPence (pos n) = pos (n / ticksPerPenny)
+floorPence (negsuc n) = negsuc (n / ticksPerPenny)
 
 -- 10,000 times the floor leaves a rest of 0 to 9,999, of a negative sum too
 abbrev pub FloorLeavesRest : Type 0
-FloorLeavesRest = (z : ℤ) → (rest : ℕ) × (z ≡ pos 10000 *ℤ floorPence z +ℤ pos rest) × (rest < 10000)
+FloorLeavesRest = (z : ℤ) → (rest : ℕ) × (z ≡ pos ticksPerPenny *ℤ floorPence z +ℤ pos rest) × (rest < ticksPerPenny)
 
 -- the bills that pass the test
 abbrev pub passing : (Bill → Bool) → List Bill → List Bill
@@ -81,56 +81,56 @@ abbrev pub reversals : Rules → Contracts → List Bill → List ℤ
 reversals R cs bs = map (λ b. negℤ (pos (partOfDue R cs b))) bs
 
 -- what each call posts where nothing turns it down
-unfoldable pub posts : Rules → Sheet → Call → List ℤ
-posts R s (asked (Made.Open c fuel kind fix entry) book) = []
-posts R s (asked (Made.Bill q) book) = issues R (s .contracts) (requestedBill (s .contracts) q book ∷ [])
-posts R s (asked (Made.Rebill q) book) = reversals R (s .contracts) (passing (named (q .contract) (q .first)) (s .bills)) ++ issues R (s .contracts) (requestedBill (s .contracts) q book ∷ [])
-posts R s (asked (Made.Cert c class effective) book) =
+unfoldable pub posts : Rules → Sheet → CallWithBook → List ℤ
+posts R s (Call.Open c fuel kind fix entry with book) = []
+posts R s (Call.Bill q with book) = issues R (s .contracts) (requestedBill (s .contracts) q book ∷ [])
+posts R s (Call.Rebill q with book) = reversals R (s .contracts) (passing (named (q .contract) (q .first)) (s .bills)) ++ issues R (s .contracts) (requestedBill (s .contracts) q book ∷ [])
+posts R s (Call.Cert c class effective with book) =
     let bs = passing (λ b. eqb (b .contract) c) (s .bills) in
     reversals R (s .contracts) bs ++ issues R (putContract (s .contracts) c (certify (contractAt (s .contracts) c) class effective)) bs
-posts R s (asked (Made.Cancel c first) book) = reversals R (s .contracts) (passing (named c first) (s .bills))
-posts R s (asked Made.Claim book) = []
-posts R s (asked (Made.Report c) book) = []
-posts R s (asked Made.Total book) = []
+posts R s (Call.Cancel c first with book) = reversals R (s .contracts) (passing (named c first) (s .bills))
+posts R s (Call.Claim with book) = []
+posts R s (Call.Report c with book) = []
+posts R s (Call.Total with book) = []
 
 -- the rate that a call answers where nothing turns it down
-unfoldable pub acceptedRate : Rules → Sheet → Call → ℕ
-acceptedRate R s (asked (Made.Open c fuel kind fix entry) book) = 0
-acceptedRate R s (asked (Made.Bill q) book) = R .rate (contractAt (s .contracts) (q .contract)) (requestedBill (s .contracts) q book)
-acceptedRate R s (asked (Made.Rebill q) book) = R .rate (contractAt (s .contracts) (q .contract)) (requestedBill (s .contracts) q book)
-acceptedRate R s (asked (Made.Cert c class effective) book) = 0
-acceptedRate R s (asked (Made.Cancel c first) book) = 0
-acceptedRate R s (asked Made.Claim book) = 0
-acceptedRate R s (asked (Made.Report c) book) = 0
-acceptedRate R s (asked Made.Total book) = 0
+unfoldable pub acceptedRate : Rules → Sheet → CallWithBook → ℕ
+acceptedRate R s (Call.Open c fuel kind fix entry with book) = 0
+acceptedRate R s (Call.Bill q with book) = R .rate (contractAt (s .contracts) (q .contract)) (requestedBill (s .contracts) q book)
+acceptedRate R s (Call.Rebill q with book) = R .rate (contractAt (s .contracts) (q .contract)) (requestedBill (s .contracts) q book)
+acceptedRate R s (Call.Cert c class effective with book) = 0
+acceptedRate R s (Call.Cancel c first with book) = 0
+acceptedRate R s (Call.Claim with book) = 0
+acceptedRate R s (Call.Report c with book) = 0
+acceptedRate R s (Call.Total with book) = 0
 
 -- the pence that a claim answers where nothing turns it down: the floor of the sum, less the pence claimed before
-unfoldable pub acceptedPence : Postings → Call → ℤ
-acceptedPence p (asked (Made.Open c fuel kind fix entry) book) = pos 0
-acceptedPence p (asked (Made.Bill q) book) = pos 0
-acceptedPence p (asked (Made.Rebill q) book) = pos 0
-acceptedPence p (asked (Made.Cert c class effective) book) = pos 0
-acceptedPence p (asked (Made.Cancel c first) book) = pos 0
-acceptedPence p (asked Made.Claim book) = floorPence (sumPosted (p .posted)) -ℤ p .claimed
-acceptedPence p (asked (Made.Report c) book) = pos 0
-acceptedPence p (asked Made.Total book) = pos 0
+unfoldable pub acceptedPence : Postings → CallWithBook → ℤ
+acceptedPence p (Call.Open c fuel kind fix entry with book) = pos 0
+acceptedPence p (Call.Bill q with book) = pos 0
+acceptedPence p (Call.Rebill q with book) = pos 0
+acceptedPence p (Call.Cert c class effective with book) = pos 0
+acceptedPence p (Call.Cancel c first with book) = pos 0
+acceptedPence p (Call.Claim with book) = floorPence (sumPosted (p .posted)) -ℤ p .claimed
+acceptedPence p (Call.Report c with book) = pos 0
+acceptedPence p (Call.Total with book) = pos 0
 
 -- what a call leaves and answers; one that is turned down, by the same tests on the module's own facts, posts nothing and answers zeros
 module _ (R : Rules) where
-  unfoldable pub accept : Postings → Call → Postings
+  unfoldable pub accept : Postings → CallWithBook → Postings
   accept p c = record { standing = Sheet.accept (p .standing) c; posted = p .posted ++ posts R (p .standing) c; claimed = p .claimed +ℤ acceptedPence p c }
 
-  unfoldable pub acceptedFigures : Postings → Call → Figures
+  unfoldable pub acceptedFigures : Postings → CallWithBook → Figures
   acceptedFigures p c = record { rate = acceptedRate R (p .standing) c; customer = sumPosted (posts R (p .standing) c); pence = acceptedPence p c }
 
-  unfoldable pub step : Postings → Call → Postings
+  unfoldable pub step : Postings → CallWithBook → Postings
   step p c = unlessRefused (refusal R (view (p .standing)) c) (accept p c) p
 
-  unfoldable pub figures : Postings → Call → Figures
+  unfoldable pub figures : Postings → CallWithBook → Figures
   figures p c = unlessRefused (refusal R (view (p .standing)) c) (acceptedFigures p c) noFigures
 
 -- of a machine: for either territory and every history, call by call, the rate, the customer's signed amount and the pence of each claim
 -- are those of the posting module
 abbrev pub SameAsPostings : Rules → Machine → Type 0
-SameAsPostings R m = (territory : ℕ) → territory ≤ 1 → (h : List Call) →
+SameAsPostings R m = (territory : ℕ) → territory ≤ 1 → (h : List CallWithBook) →
     map answeredFigures (answersTo m territory h) ≡ replies (step R) (figures R) (nothingPosted territory) h

@@ -1,18 +1,19 @@
--- The rules by which a ledger and its sheet are kept. Document 01's are the value `document01`; the ledger, the sheet and the balance
+-- The rules by which a ledger and its sheet are kept. Document 01's are the value `presentRules`; the ledger, the sheet and the balance
 -- are stated for any rules, so that a later paper is another value. Assumes nothing.
 use mathlib.Core.Bool.{Bool}
 use mathlib.Core.List.{List}
-use Prim.Native.Nat.{ℕ}
+use Prim.Native.Nat.{ℕ, zero, suc}
 use Rattle.rates.specs.declared.Contract.{Contract}
 use Rattle.rates.specs.declared.Bill.{Bill}
-use Rattle.model.specs.Contracts.{Contracts, contractAt}
-use Rattle.model.specs.Calls.{Call, View, Test, firstOf}
+use Rattle.model.specs.declared.Row.{Row}
+use Rattle.model.specs.Contracts.{Contracts, contractOf}
+use Rattle.model.specs.Calls.{CallWithBook, View, Test, firstOf}
 
 pub record Rules : Type 0 where
   -- contract numbers are below this one
   pub contractLimit : ℕ
   -- the tests that can turn a call of a history down, in checking order
-  pub tests : View → Call → List Test
+  pub tests : View → CallWithBook → List Test
   -- a bill's rate, its part of due, and the most that the part can be, under its contract, in ticks
   pub rate : Contract → Bill → ℕ
   pub amount : Contract → Bill → ℕ
@@ -22,9 +23,19 @@ pub record Rules : Type 0 where
   pub billOk : Contract → Bill → Bool
 
 -- the number that turns a call down, 0 where it is accepted
-unfoldable pub refusal : Rules → View → Call → ℕ
+unfoldable pub refusal : Rules → View → CallWithBook → ℕ
 refusal R v c = firstOf (R .tests v c)
+
+-- "The call gives the first number below that fits .. and changes no byte": what a call brings about, by the number of its refusal,
+-- 0 where it is accepted
+abbrev pub unlessRefused : {A : Type 0} → (refusal : ℕ) → (accepted refused : A) → A
+unlessRefused zero accepted refused = accepted
+unlessRefused (suc n) accepted refused = refused
 
 -- a bill's part of due, by its contract as it then stands
 unfoldable pub partOfDue : Rules → Contracts → Bill → ℕ
-partOfDue R cs b = R .amount (contractAt cs (b .contract)) b
+partOfDue R cs b = R .amount (contractOf cs b) b
+
+-- the row of a standing bill: its amount is its part of due
+abbrev pub standingRow : Rules → Contracts → Bill → Row
+standingRow R cs b = record { bill = b; amount = partOfDue R cs b }

@@ -4,30 +4,31 @@ use mathlib.Core.List.{List, [], _∷_, map}
 use Prim.Native.Nat.{ℕ}
 use lib.ListN.{replicate}
 use lib.IntN.{pos, negℤ}
+use Rattle.limits.specs.Limits.{bookLength}
 use Rattle.model.specs.declared.Answer.{Answer}
 use Rattle.model.specs.declared.Answer.the-variants.{Refused, Done, Billed, Rebilled, Certified, Cancelled, Claimed, Totalled}
-use Rattle.model.specs.declared.Call.{Call as Made}
-use Rattle.model.specs.Calls.{Call, asked, requestOf}
-use Rattle.model.specs.Document01.{document01}
+use Rattle.model.specs.declared.Call.{Call}
+use Rattle.model.specs.Calls.{CallWithBook, _with_, requestOf}
+use Rattle.model.specs.PresentRules.{presentRules}
 use Rattle.model.specs.History.{answersTo, ledgerMachine}
 
 -- a book of zeros
 unfoldable pub zeroBook : List ℕ
-zeroBook = replicate 1740 0
+zeroBook = replicate bookLength 0
 
 -- the run's calls, each with a book of zeros
-unfoldable pub runCalls : List Call
-runCalls = map (λ c. asked c zeroBook) (
-    Made.Open 0 0 2 0 0
-    ∷ Made.Bill (requestOf 0 486 515 1000 67030 31980)
-    ∷ Made.Claim
-    ∷ Made.Cert 0 1 486
-    ∷ Made.Claim
-    ∷ Made.Rebill (requestOf 0 486 515 901 67030 31980)
-    ∷ Made.Claim
-    ∷ Made.Cancel 0 486
-    ∷ Made.Total
-    ∷ Made.Bill (requestOf 64 486 515 1 1 1)
+unfoldable pub runCalls : List CallWithBook
+runCalls = map (λ c. c with zeroBook) (
+    Call.Open 0 0 2 0 0
+    ∷ Call.Bill (requestOf 0 486 515 1000 67030 31980)
+    ∷ Call.Claim
+    ∷ Call.Cert 0 1 486
+    ∷ Call.Claim
+    ∷ Call.Rebill (requestOf 0 486 515 901 67030 31980)
+    ∷ Call.Claim
+    ∷ Call.Cancel 0 486
+    ∷ Call.Total
+    ∷ Call.Bill (requestOf 64 486 515 1 1 1)
     ∷ [])
 
 unfoldable pub runAnswers : List Answer
@@ -45,4 +46,4 @@ runAnswers =
     ∷ []
 
 abbrev pub TheRun : Type 0
-TheRun = answersTo (ledgerMachine document01) 0 runCalls ≡ runAnswers
+TheRun = answersTo (ledgerMachine presentRules) 0 runCalls ≡ runAnswers

@@ -1,15 +1,15 @@
 -- Document 01, "A history and its sheet": the sheet is fed the territory and the calls, and no answer and no byte. Assumes nothing.
 use mathlib.Core.Bool.{Bool, cond}
 use mathlib.Core.List.{List, [], _∷_, map}
-use Prim.Native.Nat.{ℕ, zero, suc}
+use Prim.Native.Nat.{ℕ, suc}
 use Rattle.basics.specs.Lists.{total, count}
 use Rattle.rates.specs.declared.Contract.{Contract}
 use Rattle.rates.specs.declared.Bill.{Bill}
 use Rattle.model.specs.Codes.{opening, certify}
 use Rattle.model.specs.Contracts.{Contracts, noContracts, contractAt, putContract}
-use Rattle.model.specs.declared.Call.{Call as Made}
-use Rattle.model.specs.Calls.{Call, View, named, requestedBill, asked}
-use Rattle.model.specs.Rules.{Rules, refusal, partOfDue}
+use Rattle.model.specs.declared.Call.{Call}
+use Rattle.model.specs.Calls.{CallWithBook, View, named, requestedBill, _with_}
+use Rattle.model.specs.Rules.{Rules, refusal, unlessRefused, partOfDue}
 
 -- contracts, bills in no order, and a count of claims
 pub record Sheet : Type 0 where
@@ -41,23 +41,19 @@ abbrev pub withContract : Sheet → ℕ → Contract → Sheet
 withContract s c k = record { territory = s .territory; contracts = putContract (s .contracts) c k; bills = s .bills; claims = s .claims }
 
 -- what each call does to the sheet where nothing turns it down
-unfoldable pub accept : Sheet → Call → Sheet
-accept s (asked (Made.Open c fuel kind fix entry) book) = withContract s c (opening fuel kind fix entry)
-accept s (asked (Made.Bill q) book) = withBills s (requestedBill (s .contracts) q book ∷ s .bills)
-accept s (asked (Made.Rebill q) book) = withBills s (map (inPlaceOf (named (q .contract) (q .first)) (requestedBill (s .contracts) q book)) (s .bills))
-accept s (asked (Made.Cert c class effective) book) = withContract s c (certify (contractAt (s .contracts) c) class effective)
-accept s (asked (Made.Cancel c first) book) = withBills s (strikeOut (named c first) (s .bills))
-accept s (asked Made.Claim book) = record { territory = s .territory; contracts = s .contracts; bills = s .bills; claims = suc (s .claims) }
-accept s (asked (Made.Report c) book) = s
-accept s (asked Made.Total book) = s
+unfoldable pub accept : Sheet → CallWithBook → Sheet
+accept s (Call.Open c fuel kind fix entry with book) = withContract s c (opening fuel kind fix entry)
+accept s (Call.Bill q with book) = withBills s (requestedBill (s .contracts) q book ∷ s .bills)
+accept s (Call.Rebill q with book) = withBills s (map (inPlaceOf (named (q .contract) (q .first)) (requestedBill (s .contracts) q book)) (s .bills))
+accept s (Call.Cert c class effective with book) = withContract s c (certify (contractAt (s .contracts) c) class effective)
+accept s (Call.Cancel c first with book) = withBills s (strikeOut (named c first) (s .bills))
+accept s (Call.Claim with book) = record { territory = s .territory; contracts = s .contracts; bills = s .bills; claims = suc (s .claims) }
+accept s (Call.Report c with book) = s
+accept s (Call.Total with book) = s
 
 -- a call that is turned down leaves the sheet as it was
-abbrev pub unlessRefused : ℕ → Sheet → Sheet → Sheet
-unlessRefused zero s accepted = accepted
-unlessRefused (suc n) s accepted = s
-
-unfoldable pub step : Rules → Sheet → Call → Sheet
-step R s c = unlessRefused (refusal R (view s) c) s (accept s c)
+unfoldable pub step : Rules → Sheet → CallWithBook → Sheet
+step R s c = unlessRefused (refusal R (view s) c) (accept s c) s
 
 -- due: the sum of the parts of the bills on the sheet, by its latest facts
 unfoldable pub due : Rules → Sheet → ℕ

@@ -80,10 +80,13 @@ pub enum Answer {
     },
 }
 
-// What is told of an answer: the number of the refusal, 0 where the call is accepted; how many numbers it has, and those in the
+// No answer has more numbers.
+pub const ANSWER_NUMBERS: usize = 3;
+
+// The reply of an answer: the number of the refusal, 0 where the call is accepted; how many numbers it has, and those in the
 // paper's order, zeros after them.
-pub struct Told {
+pub struct Reply {
     pub refused: u32,
     pub count: usize,
-    pub numbers: [i64; 3],
+    pub numbers: [i64; ANSWER_NUMBERS],
 }

@@ -1,8 +1,9 @@
 -- A bill's rate is at most its class's cap, and its amount has fewer than 50 bits within the paper's ranges. Assumes nothing.
-use Prim.Native.Nat.{ℕ, _-_, _*_, _^_, _<_, _≤_}
+use Prim.Native.Nat.{ℕ, _*_, _^_, _<_, _≤_}
 use native.Mathlib.Omega.{arith}
 use native.Mathlib.Nat.{mul-le-mul, mul-le-mul-left}
 use lib.IntN.{pos, _-ℤ_}
+use Rattle.limits.specs.Limits.{highestPrice, mostKwhStored}
 use Rattle.basics.specs.Integers.{atLeastZero}
 use Rattle.basics.proofs.Integers.{difference-at-least-zero}
 use Rattle.rates.specs.declared.Fuel.{Fuel}
@@ -33,10 +34,17 @@ class-rate-capped Electricity QhsNew R S = unlimited-le 28240 R S
 class-rate-capped Gas QhsOld R S = unlimited-le 7830 R S
 class-rate-capped Gas QhsNew R S = unlimited-le 6500 R S
 
-held-le : (minimum S : ℕ) → S ≤ 999999 → 10 * atLeastZero (pos S -ℤ pos minimum) ≤ 9999990
+-- no rate and no amount within the paper's ranges is higher
+abbrev pub highestRate : ℕ
+highestRate = 10 * highestPrice
+
+abbrev pub highestAmount : ℕ
+highestAmount = mostKwhStored * highestRate
+
+held-le : (minimum S : ℕ) → S ≤ highestPrice → 10 * atLeastZero (pos S -ℤ pos minimum) ≤ highestRate
 held-le minimum S h = omega (arith, difference-at-least-zero S minimum)
 
-class-cap-low : (fuel : Fuel) (class : Class) (S : ℕ) → S ≤ 999999 → classCap fuel class S ≤ 9999990
+class-cap-low : (fuel : Fuel) (class : Class) (S : ℕ) → S ≤ highestPrice → classCap fuel class S ≤ highestRate
 unfolding classCap
 class-cap-low Electricity Baseline S h = omega arith
 class-cap-low Gas Baseline S h = omega arith
@@ -56,14 +64,14 @@ pub amount-capped : (contract : Contract) (bill : Bill) → amount contract bill
 unfolding amount
 amount-capped contract bill = mul-le-mul-left (bill .kwh) (rate-capped contract bill)
 
-pub rate-low : (contract : Contract) (bill : Bill) → bill .supply ≤ 999999 → rate contract bill ≤ 9999990
+pub rate-low : (contract : Contract) (bill : Bill) → bill .supply ≤ highestPrice → rate contract bill ≤ highestRate
 unfolding cap
 rate-low contract bill h = omega (arith, rate-capped contract bill, class-cap-low (contract .fuel) (classOf contract (bill .first)) (bill .supply) h)
 
 -- within the paper's ranges
-pub amount-low : (contract : Contract) (bill : Bill) → bill .kwh ≤ 100000000 → bill .supply ≤ 999999 → amount contract bill ≤ 999999000000000
+pub amount-low : (contract : Contract) (bill : Bill) → bill .kwh ≤ mostKwhStored → bill .supply ≤ highestPrice → amount contract bill ≤ highestAmount
 unfolding amount
-amount-low contract bill h k = let m : bill .kwh * rate contract bill ≤ 100000000 * 9999990 = mul-le-mul h (rate-low contract bill k) in omega arith
+amount-low contract bill h k = let m : bill .kwh * rate contract bill ≤ mostKwhStored * highestRate = mul-le-mul h (rate-low contract bill k) in omega arith
 
-pub amount-bits : (contract : Contract) (bill : Bill) → bill .kwh ≤ 100000000 → bill .supply ≤ 999999 → amount contract bill < 2 ^ 50
+pub amount-bits : (contract : Contract) (bill : Bill) → bill .kwh ≤ mostKwhStored → bill .supply ≤ highestPrice → amount contract bill < 2 ^ 50
 amount-bits contract bill h k = omega (arith, amount-low contract bill h k)

@@ -1,9 +1,10 @@
 -- Document 01, "Prices per kWh": parts, rates, a bill's class and a class's cap. R is the reference wholesale price and S the supply
 -- price, in mils; rates and caps are in ticks (a tick is a ten-thousandth of a penny). Assumes nothing.
 use mathlib.Core.Bool.{Bool, false, not, cond, _&&_}
-use Prim.Native.Nat.{ℕ, _+_, _*_}
+use Prim.Native.Nat.{ℕ, _+_, _*_, _≤_}
 use lib.Dec.{leb, ltb}
 use lib.IntN.{ℤ, pos, _-ℤ_}
+use Rattle.limits.specs.Limits.{newMinimumDay, mostKwhStored, highestPrice}
 use Rattle.basics.specs.Integers.{minℤ, atLeastZero}
 use Rattle.rates.specs.declared.Fuel.{Fuel}
 use Rattle.rates.specs.declared.Fuel.the-variants.{Electricity, Gas}
@@ -16,6 +17,7 @@ use Rattle.rates.specs.declared.Contract.{Contract}
 use Rattle.rates.specs.declared.Bill.{Bill}
 use Rattle.rates.specs.declared.Class.{Class}
 use Rattle.rates.specs.declared.Class.the-variants.{Baseline, Etii, QhsOld, QhsNew}
+use Rattle.rates.specs.declared.Rated.{Rated}
 use Rattle.rates.specs.declared.Prices.{Prices}
 use Rattle.rates.specs.declared.Prices.the-variants.{Limited, Unlimited}
 use Rattle.rates.specs.Prices.{pricesOf}
@@ -43,13 +45,13 @@ classRate fuel QhsNew R S = 10 * partOf fuel QhsNew R S
 
 -- the QHS minimum: the new one applies when the bill's first day is 792 or later, except to a fixed contract entered before day 792
 abbrev pub enteredEarly : Kind → Bool
-enteredEarly (Fixed fix entry) = ltb entry 792
+enteredEarly (Fixed fix entry) = ltb entry newMinimumDay
 enteredEarly Variable = false
 enteredEarly Flexible = false
 enteredEarly Index = false
 
 unfoldable pub qhsClass : Kind → (first : ℕ) → Class
-qhsClass kind first = cond (leb 792 first && not (enteredEarly kind)) QhsNew QhsOld
+qhsClass kind first = cond (leb newMinimumDay first && not (enteredEarly kind)) QhsNew QhsOld
 
 -- a bill's class: a certificate applies to bills whose first day is on or after the effective day; earlier bills are baseline
 abbrev pub certified : Certificate → Kind → (first : ℕ) → Class
@@ -82,3 +84,12 @@ cap contract bill = classCap (contract .fuel) (classOf contract (bill .first)) (
 -- a bill's amount: kWh times the rate
 unfoldable pub amount : Contract → Bill → ℕ
 amount contract bill = bill .kwh * rate contract bill
+
+-- a bill whose kWh and S keep the ranges of a row, so that its amount fits
+pub record Rateable (bill : Bill) : Type 0 where
+  pub kwh : bill .kwh ≤ mostKwhStored
+  pub supply : bill .supply ≤ highestPrice
+
+-- both
+abbrev pub ratedOf : Contract → Bill → Rated
+ratedOf contract bill = record { rate = rate contract bill; amount = amount contract bill }

@@ -1,12 +1,13 @@
-// The discount per kWh of a bill: contracts, certificates, classes, parts, rates, caps and amounts.
+// The discount per kWh of a bill: contracts, certificates, classes, parts, rates and amounts.
 mod fuels;
 
 use fuels::Electricity;
 use fuels::Gas;
+use limits::NEW_MINIMUM_DAY;
 ghost use mathlib.Core.Path.{_≡_};
 ghost use Prim.Native.Nat.{_-_, _≤_, min};
 ghost use Rattle.rates.specs.Prices.{pricesOf};
-ghost use Rattle.rates.specs.Rates.{part, partOf, classRate, enteredEarly, qhsClass, classOf, rate, amount};
+ghost use Rattle.rates.specs.Rates.{part, partOf, classRate, enteredEarly, qhsClass, classOf, rate, amount, Rateable, ratedOf};
 
 // Fuel: 0 electricity, 1 gas.
 pub enum Fuel {
@@ -129,7 +130,7 @@ pub fn class_rate(fuel: Fuel, class: Class, reference: u32, supply: u32) -> u64
     }
 }
 
-// Whether a contract is fixed and was entered before day 792.
+// Whether a contract is fixed and was entered before the new minimum.
 fn entered_early(kind: Kind) -> bool
     ensures { λ r. ⌜ r ≡ enteredEarly kind ⌝ }
 {
@@ -137,7 +138,7 @@ fn entered_early(kind: Kind) -> bool
         Kind::Fixed {
             price_fix_day: _,
             entry_day,
-        } => entry_day < 792,
+        } => entry_day < NEW_MINIMUM_DAY,
         Kind::Variable => false,
         Kind::Flexible => false,
         Kind::Index => false,
@@ -148,7 +149,7 @@ fn entered_early(kind: Kind) -> bool
 fn qhs_class(kind: Kind, first: u32) -> Class
     ensures { λ r. ⌜ r ≡ qhsClass kind first ⌝ }
 {
-    if first < 792 {
+    if first < NEW_MINIMUM_DAY {
         return Class::QhsOld;
     }
     if entered_early(kind) {
@@ -195,10 +196,26 @@ pub fn rate(contract: Contract, bill: Bill) -> u64
     )
 }
 
-// A bill's amount under its contract, in ticks: kWh times the rate.
+// A bill's rate and amount, in ticks.
+pub struct Rated {
+    pub rate: u64,
+    pub amount: u64,
+}
+
+// A bill's rate and amount under its contract: the amount is kWh times the rate.
+pub fn rate_and_amount(contract: Contract, bill: Bill) -> Rated
+    requires { ⌜ Rateable bill ⌝ }
+    ensures { λ r. ⌜ r ≡ ratedOf contract bill ⌝ }
+{
+    let rate = rate(contract, bill);
+    let amount = bill.kwh as u64 * rate;
+    Rated { rate, amount }
+}
+
+// A bill's amount under its contract.
 pub fn amount(contract: Contract, bill: Bill) -> u64
-    requires { ⌜ (bill .kwh ≤ 100000000) × (bill .supply ≤ 999999) ⌝ }
+    requires { ⌜ Rateable bill ⌝ }
     ensures { λ r. ⌜ r ≡ amount contract bill ⌝ }
 {
-    bill.kwh as u64 * rate(contract, bill)
+    rate_and_amount(contract, bill).amount
 }

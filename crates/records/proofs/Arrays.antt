@@ -8,7 +8,7 @@ use native.Mathlib.Omega.{arith}
 use lib.ListN.{length, take, drop, getD, set, replicate, length-append, length-drop, length-map, take-append-drop}
 use lib.Seq.{length-take-le, take-at, drop-at, drop-drop, set-split, split-at}
 use Rattle.records.specs.Pack.{size, WholeBytes}
-use Rattle.records.specs.Slots.{Kind, whole, slotOut, slotBytes, arrayOut}
+use Rattle.records.specs.Slots.{RecordLayout, whole, slotOut, slotBytes, arrayOut}
 use Rattle.records.specs.Places.{places, inserted, removed}
 use Rattle.records.specs.Edits.{insertAt, removeAt, replaceAt, onPart}
 use Rattle.records.proofs.Pack.{length-pack}
@@ -57,7 +57,7 @@ part-pieces h a r f from to hh ha =
 
 -- ---- slots of an array
 
-module _ {A : Type 0} (k : Kind A) where
+module _ {A : Type 0} (k : RecordLayout A) where
   array-three : (os : List (Option A)) (o : Option A) (ps : List (Option A)) → arrayOut k (os ++ (o ∷ ps)) ≡ arrayOut k os ++ (slotBytes k o ++ arrayOut k ps)
   array-three os o ps = array-append k os (o ∷ ps) ∙ ap (λ (b : List ℕ). arrayOut k os ++ b) (array-cons k o ps)
 
@@ -141,7 +141,7 @@ map-append : {A B : Type 0} (f : A → B) (xs ys : List A) → map f (xs ++ ys) 
 map-append f [] ys = refl
 map-append {A} {B} f (x ∷ xs) ys = ap (λ (l : List B). f x ∷ l) (map-append f xs ys)
 
-module _ {A : Type 0} (k : Kind A) (e : WholeBytes (whole k)) (h r : List ℕ) (n from : ℕ) (hh : length h ≡ from) where
+module _ {A : Type 0} (k : RecordLayout A) (e : WholeBytes (whole k)) (h r : List ℕ) (n from : ℕ) (hh : length h ≡ from) where
   -- the bytes up to the slots of xs, those of m slots, and the rest
   places-parts : (os : List (Option A)) (xs : List A) (m : ℕ) → os ++ replicate m none ≡ places n xs
       → h ++ (arrayOut k (places n xs) ++ r) ≡ h ++ (arrayOut k os ++ (arrayOut k (replicate m none) ++ r))

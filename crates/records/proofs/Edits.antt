@@ -1,4 +1,4 @@
--- Bytes put in, taken out and written over: their lengths, a part that is lent and edited, and the steps of the loops that copy,
+-- Bytes put in, taken out and written over: a part that is lent and edited, and the steps of the loops that copy,
 -- write, clear and test bytes. Assumes nothing.
 use mathlib.Core.Path.{_≡_, refl, sym, ap, ap₂, _∙_}
 use mathlib.Core.Bool.{true≢false}
@@ -10,26 +10,11 @@ use borrow.Author.Count.{below-none, below-more}
 use borrow.Rule.Slice.PartMut.{midOf, putMid, post-is}
 use lib.Bits.{bitOr, or-zero-l, or-add-and, and-le-l, and-le-r}
 use lib.Dec.{eqb}
-use lib.ListN.{length, take, drop, getD, set, replicate, length-append, length-drop, length-replicate, take-append-drop, List·getD-append, List·getD-map}
+use lib.ListN.{length, take, drop, getD, set, replicate, length-append, length-drop, take-append-drop, List·getD-append, List·getD-map}
 use lib.Seq.{length-take-le, take-all, take-at, drop-at, set-at, take-take, take-suc, take-length, drop-cons, drop-length, append-snoc, take-append-le, getD-take, getD-drop, paste, paste-suc, drop-paste}
 use Rattle.basics.proofs.Tests.{either, yes-eq, no-eq, eq-yes, every-at}
 use Rattle.records.specs.Edits.{insertAt, removeAt, replaceAt, zeroAt, onPart, copied}
 use Rattle.records.proofs.Lists.{at-every-map}
-
--- ---- lengths
-
-pub length-replaceAt : (at : ℕ) (new b : List ℕ) → at + length new ≤ length b → length (replaceAt at new b) ≡ length b
-unfolding replaceAt
-length-replaceAt at new b h = simp (length-append, length-drop) (omega (arith, length-take-le at b (omega arith)))
-
-pub length-insertAt : (at : ℕ) (new b : List ℕ) → at + length new ≤ length b → length (insertAt at new b) ≡ length b
-unfolding insertAt
-length-insertAt at new b h =
-    simp length-append (omega (arith, length-take-le at b (omega arith), length-take-le (length b - length new - at) (drop at b) (omega (arith, length-drop at b))))
-
-pub length-removeAt : (at n : ℕ) (b : List ℕ) → at + n ≤ length b → length (removeAt at n b) ≡ length b
-unfolding removeAt
-length-removeAt at n b h = simp (length-append, length-drop, length-replicate) (omega (arith, length-take-le at b (omega arith)))
 
 -- ---- parts of bytes
 
@@ -101,34 +86,39 @@ end-cleared d P to n h e =
     ap₂ (λ (x : List ℕ) (k : ℕ). x ++ (replicate k 0 ++ drop (length d) d)) e many
     ∙ ap (λ (r : List ℕ). P ++ (replicate n 0 ++ r)) (drop-length d) ∙ ap (λ (x : List ℕ). P ++ x) (append-nil (replicate n 0))
 
-module _ (b d : List ℕ) (at n kept : ℕ) (fits : at + n + kept ≡ length b) where
-  -- the bytes from `at` on are copied up by n, and `new` is written over the gap
-  pub copied-insert : (c new : List ℕ) → length new ≡ n → d ≡ copied at (at + n) kept b → c ≡ replaceAt at new d → c ≡ insertAt at new b
-  unfolding copied replaceAt insertAt
-  copied-insert c new ln e f =
-      let F : List ℕ = take (at + n) b in
-      let T : List ℕ = take kept (drop at b) ++ drop (at + n + kept) b in
-      let lF : length F ≡ at + n = length-take-le (at + n) b (omega arith) in
-      let front : take at d ≡ take at b = ap (take at) e ∙ take-append-le at F T (omega arith) ∙ take-take at (at + n) b (omega arith) in
-      let k : kept ≡ length b - length new - at = omega arith in
-      let rest : drop (at + length new) d ≡ take (length b - length new - at) (drop at b) =
-      ap₂ (λ (m : ℕ) (x : List ℕ). drop (at + m) x) ln e ∙ drop-at F T (at + n) lF
-      ∙ ap (λ (m : ℕ). take kept (drop at b) ++ drop m b) fits ∙ ap (λ (x : List ℕ). take kept (drop at b) ++ x) (drop-length b)
-      ∙ append-nil (take kept (drop at b)) ∙ ap (λ (m : ℕ). take m (drop at b)) k in
-      f ∙ ap₂ (λ (x y : List ℕ). x ++ (new ++ y)) front rest
+-- the bytes from `at` on are copied up by the length of `new`, which is written over the gap
+pub copied-insert : (b d c new : List ℕ) (at : ℕ) → at + length new ≤ length b → d ≡ copied at (at + length new) (length b - length new - at) b → c ≡ replaceAt at new d
+    → c ≡ insertAt at new b
+unfolding copied replaceAt insertAt
+copied-insert b d c new at h e f =
+    let n = length new in
+    let kept = length b - n - at in
+    let fits : at + n + kept ≡ length b = omega arith in
+    let F : List ℕ = take (at + n) b in
+    let T : List ℕ = take kept (drop at b) ++ drop (at + n + kept) b in
+    let lF : length F ≡ at + n = length-take-le (at + n) b h in
+    let front : take at d ≡ take at b = ap (take at) e ∙ take-append-le at F T (omega arith) ∙ take-take at (at + n) b (omega arith) in
+    let rest : drop (at + n) d ≡ take kept (drop at b) =
+    ap (drop (at + n)) e ∙ drop-at F T (at + n) lF
+    ∙ ap (λ (m : ℕ). take kept (drop at b) ++ drop m b) fits ∙ ap (λ (x : List ℕ). take kept (drop at b) ++ x) (drop-length b)
+    ∙ append-nil (take kept (drop at b)) in
+    f ∙ ap₂ (λ (x y : List ℕ). x ++ (new ++ y)) front rest
 
-  -- the bytes after the n at `at` are copied down by n, and the n at the end are cleared
-  pub copied-remove : length d ≡ length b → d ≡ copied (at + n) at kept b
-      → onPart (at + kept) (length d) (λ x. replicate (length x) 0) d ≡ removeAt at n b
-  unfolding copied removeAt
-  copied-remove ld e =
-      let X : List ℕ = drop (at + n) b in
-      let P : List ℕ = take at b ++ X in
-      let R : List ℕ = drop (at + kept) b in
-      let all : take kept X ≡ X = take-all kept X (omega (arith, length-drop (at + n) b)) in
-      let lP : length P ≡ at + kept = simp length-append (omega (arith, length-take-le at b (omega arith), length-drop (at + n) b)) in
-      let split : d ≡ P ++ R = e ∙ ap (λ (x : List ℕ). take at b ++ (x ++ R)) all ∙ sym (append-assoc (take at b) X R) in
-      end-cleared d P (at + kept) n (omega arith) (ap (take (at + kept)) split ∙ take-at P R (at + kept) lP) ∙ append-assoc (take at b) X (replicate n 0)
+-- the bytes after the n at `at` are copied down by n, and the n at the end are lent and cleared
+pub copied-remove : (b d x : List ℕ) (at n : ℕ) → at + n ≤ length b → length d ≡ length b → d ≡ copied (at + n) at (length b - n - at) b
+    → x ≡ replicate (length (midOf (at + (length b - n - at)) (length d - (at + (length b - n - at))) d)) 0
+    → putMid (at + (length b - n - at)) (length d - (at + (length b - n - at))) d x ≡ removeAt at n b
+unfolding copied removeAt
+copied-remove b d x at n h ld e f =
+    let kept = length b - n - at in
+    let X : List ℕ = drop (at + n) b in
+    let P : List ℕ = take at b ++ X in
+    let R : List ℕ = drop (at + kept) b in
+    let all : take kept X ≡ X = take-all kept X (omega (arith, length-drop (at + n) b)) in
+    let lP : length P ≡ at + kept = simp length-append (omega (arith, length-take-le at b (omega arith), length-drop (at + n) b)) in
+    let split : d ≡ P ++ R = e ∙ ap (λ (y : List ℕ). take at b ++ (y ++ R)) all ∙ sym (append-assoc (take at b) X R) in
+    part-lent (at + kept) (length d) (λ y. replicate (length y) 0) d x (omega arith) f
+    ∙ end-cleared d P (at + kept) n (omega arith) (ap (take (at + kept)) split ∙ take-at P R (at + kept) lP) ∙ append-assoc (take at b) X (replicate n 0)
 
 -- ---- the loops that write, clear and test
 

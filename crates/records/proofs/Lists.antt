@@ -21,14 +21,6 @@ module _ {A : Type 0} where
   all-true P f (x ∷ xs) = (f x, all-true P f xs)
 
 module _ {A : Type 0} (p : A → Bool) where
-  pub all-every-map : (xs : List A) → All (λ x. p x ≡ true) xs → every (map p xs) ≡ true
-  all-every-map [] a = refl
-  all-every-map (x ∷ xs) a = and-yes _ _ (a .0) (all-every-map xs (a .1))
-
-  pub every-map-all : (xs : List A) → every (map p xs) ≡ true → All (λ x. p x ≡ true) xs
-  every-map-all [] e = tt
-  every-map-all (x ∷ xs) e = (and-left (p x) _ e, every-map-all xs (and-right (p x) _ e))
-
   module _ (d : A) where
     -- each element passes, so that number i does
     pub every-map-at : (xs : List A) → every (map p xs) ≡ true → (i : ℕ) → i < length xs → p (getD xs i d) ≡ true

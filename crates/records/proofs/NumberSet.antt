@@ -2,7 +2,7 @@
 use mathlib.Core.Path.{_≡_, sym, ap, _∙_, subst}
 use mathlib.Core.List.{List, _++_, append-nil}
 use mathlib.Core.Option.{some}
-use Prim.Native.Nat.{ℕ, _+_, _*_, _<_}
+use Prim.Native.Nat.{ℕ, _+_, _<_}
 use native.Mathlib.Nat.{zero-add}
 use native.Mathlib.Omega.{arith}
 use lib.ListN.{length, take, drop, getD, set}
@@ -10,7 +10,7 @@ use lib.Seq.{drop-length}
 use Rattle.fields.specs.Field.{setField}
 use Rattle.fields.specs.Fields.{Fit, fields, sum}
 use Rattle.records.specs.Pack.{size, WholeBytes, pack, unpack}
-use Rattle.records.specs.Slots.{Kind, whole, slotOut}
+use Rattle.records.specs.Slots.{RecordLayout, whole, slotOut}
 use Rattle.records.specs.OneSlot.{recordBytes}
 use Rattle.records.specs.Edits.{replaceAt}
 use Rattle.records.proofs.Pack.{length-pack, are-pack, unpack-pack, setField-within}
@@ -22,7 +22,7 @@ replaced-all p s e =
     let end : 0 + length p ≡ length s = omega (arith, e) in
     ap (λ (n : ℕ). p ++ drop n s) end ∙ ap (λ (r : List ℕ). p ++ r) (drop-length s) ∙ append-nil p
 
-module _ {A : Type 0} (k : Kind A) (e : WholeBytes (whole k)) (a b : A) (j v : ℕ) (inside : j < length (whole k)) (fits : Fit (whole k) (slotOut k (some a))) (same : set (slotOut k (some a)) j v ≡ slotOut k (some b)) (fit : Fit (whole k) (slotOut k (some b))) where
+module _ {A : Type 0} (k : RecordLayout A) (e : WholeBytes (whole k)) (a b : A) (j v : ℕ) (inside : j < length (whole k)) (fits : Fit (whole k) (slotOut k (some a))) (same : set (slotOut k (some a)) j v ≡ slotOut k (some b)) (fit : Fit (whole k) (slotOut k (some b))) where
   read : fields (recordBytes k a) 0 (whole k) ≡ slotOut k (some a)
   unfolding recordBytes unpack
   read = unpack-pack (whole k) (slotOut k (some a)) e fits

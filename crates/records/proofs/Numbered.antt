@@ -5,19 +5,13 @@ use mathlib.Core.Option.{Option, none}
 use mathlib.Core.Logic.{_≢_}
 use Prim.Native.Nat.{ℕ, zero, suc, _<_, _≤_}
 use native.Mathlib.Omega.{arith}
-use native.Mathlib.Nat.{not-suc-le-zero, le-of-suc-le-suc}
-use lib.ListN.{length, getD, set, List·getD-eq-default}
+use lib.ListN.{length, set, List·getD-eq-default}
 use Rattle.records.specs.Numbered.{listed, numbered}
 
 module _ {A : Type 0} where
   pub length-listed : (n : ℕ) (f : ℕ → A) → length (listed n f) ≡ n
   length-listed zero f = refl
   length-listed (suc n) f = ap suc (length-listed n (λ i. f (suc i)))
-
-  pub listed-at : (n : ℕ) (f : ℕ → A) (d : A) (i : ℕ) → i < n → getD (listed n f) i d ≡ f i
-  listed-at zero f d i h = absurd (not-suc-le-zero h)
-  listed-at (suc n) f d zero h = refl
-  listed-at (suc n) f d (suc i) h = listed-at n (λ j. f (suc j)) d i (le-of-suc-le-suc h)
 
   pub listed-same : (n : ℕ) (f g : ℕ → A) → ((i : ℕ) → i < n → f i ≡ g i) → listed n f ≡ listed n g
   listed-same zero f g h = refl

@@ -12,7 +12,7 @@ use lib.Seq.{drop-cons, drop-drop, take-add}
 use Rattle.basics.specs.Tests.{every}
 use Rattle.fields.specs.Field.{AreBytes}
 use Rattle.records.specs.Pack.{size, WholeBytes, unpack, cut}
-use Rattle.records.specs.Slots.{Kind, whole, allZero, slotIn, slots, arrayIn}
+use Rattle.records.specs.Slots.{RecordLayout, whole, allZero, slotIn, slots, arrayIn}
 use Rattle.records.specs.OneSlot.{slotNumbers, slotAt}
 use Rattle.records.specs.Edits.{zeroAt}
 use Rattle.records.proofs.Pack.{unpack-within}
@@ -41,7 +41,7 @@ zeroAt-add b f m n = ap (λ (x : List ℕ). allZero x) (take-add m n (drop f b))
         and-assoc true q r = refl
         and-assoc false q r = refl
 
-module _ {A : Type 0} (k : Kind A) (e : WholeBytes (whole k)) where
+module _ {A : Type 0} (k : RecordLayout A) (e : WholeBytes (whole k)) where
   zero-slots : (m f : ℕ) (b : List ℕ) → AreBytes b → f + m * size (whole k) ≤ length b → zeroAt f (m * size (whole k)) b ≡ every (map allZero (slots k m (drop f b)))
   unfolding slots cut
   zero-slots zero f b h l = let z : 0 * size (whole k) ≡ 0 = omega arith in ap (λ (n : ℕ). zeroAt f n b) z ∙ zeroAt-none b f

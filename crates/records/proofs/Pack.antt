@@ -7,7 +7,7 @@ use native.Mathlib.Omega.{arith}
 use native.Mathlib.Nat.{add-zero, add-assoc, not-suc-le-zero, le-of-suc-le-suc}
 use lib.ListN.{length, take, drop, getD, set, length-append, length-drop}
 use lib.Seq.{length-take-le, take-at}
-use Rattle.fields.specs.Field.{bits, bytes, fieldAt, setField, AreBytes}
+use Rattle.fields.specs.Field.{bits, bytes, setField, AreBytes}
 use Rattle.fields.specs.Fields.{sum, fields, setFields, fieldBits, Fit}
 use Rattle.fields.proofs.Laws.{length-bytes, are-bytes, bits-append, bits-bytes, bits-take, bits-drop, bits-inj, are-append, are-take, are-drop, are-setField, length-setField, field-within, set-get, get-set-after, fields-fit, fields-packed, packed-fields, length-fieldBits, length-setFields, are-setFields, bits-setFields}
 use Rattle.records.specs.Pack.{size, WholeBytes, pack, unpack}
@@ -83,16 +83,6 @@ setFields-within b f ws vs hb e h g =
     bits-inj (setFields b (8 * f) ws vs) c (are-setFields b (8 * f) ws vs hb)
     (are-append (take f b) (p ++ D) (are-take f b hb) (are-append p D (are-pack ws vs) (are-drop (f + length p) b hb)))
     lc (bits-setFields b (8 * f) ws vs (omega arith) g ∙ sym bc)
-
--- ---- one field of a record
-
-pub fields-get : (b : List ℕ) (at : ℕ) (ws : List ℕ) (j : ℕ) → j < length ws
-    → getD (fields b at ws) j 0 ≡ fieldAt b (at + sum (take j ws)) (getD ws j 0)
-unfolding fields
-fields-get b at [] j h = absurd (not-suc-le-zero h)
-fields-get b at (w ∷ ws) zero h = ap (λ (m : ℕ). fieldAt b m w) (sym (add-zero at))
-fields-get b at (w ∷ ws) (suc j) h =
-    fields-get b (at + w) ws j (le-of-suc-le-suc h) ∙ ap (λ (m : ℕ). fieldAt b m (getD ws j 0)) (add-assoc at w (sum (take j ws)))
 
 fields-after : (b : List ℕ) (at w v at′ : ℕ) (ws : List ℕ) → at + w ≤ 8 * length b → at + w ≤ at′
     → fields (setField b at w v) at′ ws ≡ fields b at′ ws

@@ -1,6 +1,6 @@
 -- Records that come first in their array: the slots of records and the records of slots, their order, and their tests. Assumes nothing.
 use mathlib.Core.Path.{_≡_, refl, ap, ap₂, _∙_}
-use mathlib.Core.Bool.{Bool, true, _&&_, false≢true}
+use mathlib.Core.Bool.{Bool, true, false≢true}
 use mathlib.Core.List.{List, [], _∷_, _++_, map}
 use mathlib.Core.Option.{Option, none, some}
 use Prim.Native.Nat.{ℕ, zero, suc, _+_, _-_, _<_, _≤_}
@@ -8,12 +8,9 @@ use native.Mathlib.Omega.{arith}
 use native.Mathlib.Nat.{not-suc-le-zero, le-of-suc-le-suc}
 use lib.ListN.{length, getD, set, replicate, length-append, length-map, length-replicate, length-set}
 use Rattle.basics.specs.Tests.{every}
-use Rattle.basics.specs.Lists.{All}
 use Rattle.basics.proofs.Tests.{and-left, and-right, and-yes}
-use Rattle.records.specs.Slots.{Kind, passes}
 use Rattle.records.specs.Places.{held, places, inOrder}
-use Rattle.records.specs.Pairs.{everyPair, everyNeighbours}
-use Rattle.records.proofs.Pairs.{pairs-by-neighbours}
+use Rattle.records.specs.Pairs.{everyPair}
 
 module _ {A : Type 0} where
   -- ---- the slots of records
@@ -31,17 +28,6 @@ module _ {A : Type 0} where
       go : (ys : List A) (m j : ℕ) → j < length ys → getD (map some ys ++ replicate m none) j none ≡ some (getD ys j d)
       go [] m j l = absurd (not-suc-le-zero l)
       go (y ∷ ys) m zero l = refl
-      go (y ∷ ys) m (suc j) l = go ys m j (le-of-suc-le-suc l)
-
-  pub place-free : (n : ℕ) (xs : List A) (i : ℕ) → length xs ≤ i → getD (places n xs) i none ≡ none
-  unfolding places
-  place-free n xs i h = go xs (n - length xs) i h
-    where
-      go : (ys : List A) (m j : ℕ) → length ys ≤ j → getD (map some ys ++ replicate m none) j none ≡ none
-      go [] zero j l = refl
-      go [] (suc m) zero l = refl
-      go [] (suc m) (suc j) l = go [] m j (omega arith)
-      go (y ∷ ys) m zero l = absurd (not-suc-le-zero l)
       go (y ∷ ys) m (suc j) l = go ys m j (le-of-suc-le-suc l)
 
   -- another record at place i
@@ -129,35 +115,3 @@ module _ {A : Type 0} (before : A → A → Bool) where
       go [] zero f = refl
       go [] (suc m) f = and-yes _ _ (none-first m) (go [] m refl)
       go (y ∷ ys) m f = and-yes _ _ (one-first y ys m (and-left (every (map (before y) ys)) _ f)) (go ys m (and-right (every (map (before y) ys)) _ f))
-
-  -- ---- neighbours suffice for the order of slots, where that of their records is transitive
-
-  module _ (P : A → Type 0) (trans : (x y z : A) → P x → P y → P z → before x y ≡ true → before y z ≡ true → before x z ≡ true) where
-    OnRecord : Option A → Type 0
-    OnRecord none = Unit {0}
-    OnRecord (some x) = P x
-
-    on-records : (os : List (Option A)) → All P (held os) → All OnRecord os
-    unfolding OnRecord
-    on-records [] a = tt
-    on-records (none ∷ os) a = (tt, on-records os a)
-    on-records (some x ∷ os) a = (a .0, on-records os (a .1))
-
-    inOrder-trans : (x y z : Option A) → OnRecord x → OnRecord y → OnRecord z → inOrder before x y ≡ true
-        → inOrder before y z ≡ true → inOrder before x z ≡ true
-    unfolding inOrder OnRecord
-    inOrder-trans x y none p q r e f = refl
-    inOrder-trans x none (some z) p q r e f = absurd (false≢true f)
-    inOrder-trans none (some y) (some z) p q r e f = absurd (false≢true e)
-    inOrder-trans (some x) (some y) (some z) p q r e f = trans x y z p q r e f
-
-    pub order-by-neighbours : (os : List (Option A)) → All P (held os) → everyPair (inOrder before) os ≡ everyNeighbours (inOrder before) os
-    order-by-neighbours os a = pairs-by-neighbours (inOrder before) OnRecord inOrder-trans os (on-records os a)
-
--- ---- the records that pass
-
-pub passes-held : {A : Type 0} (k : Kind A) (test : List ℕ → Bool) (os : List (Option A))
-    → every (map (passes k test) os) ≡ every (map (λ x. test (k .values x)) (held os))
-passes-held k test [] = refl
-passes-held k test (none ∷ os) = passes-held k test os
-passes-held k test (some x ∷ os) = ap (λ (b : Bool). test (k .values x) && b) (passes-held k test os)

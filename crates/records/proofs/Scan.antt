@@ -12,12 +12,12 @@ use Rattle.basics.specs.Tests.{every}
 use Rattle.basics.specs.Lists.{All, total}
 use Rattle.basics.proofs.Tests.{either, and-left, and-right, and-yes, le-yes, yes-le, yes-eq}
 use Rattle.basics.proofs.Lists.{all-map}
-use Rattle.records.specs.Slots.{Kind, allZero, recordFields, slotIn, slotOk}
+use Rattle.records.specs.Slots.{RecordLayout, allZero, recordFields, slotIn, slotOk}
 use Rattle.records.specs.Places.{held, inOrder}
 use Rattle.records.specs.Pairs.{everyPair}
 
 -- the record of a slot's numbers
-abbrev pub recordOf : {A : Type 0} → Kind A → List ℕ → A
+abbrev pub recordOf : {A : Type 0} → RecordLayout A → List ℕ → A
 recordOf k v = k .of (recordFields k v)
 
 -- of records that pass, one comes before another exactly where its next key is at most the other's first
@@ -42,7 +42,7 @@ zero-free (x ∷ v) e = and-left (eqb x 0) _ e
 
 -- ---- free and held slots
 
-module _ {A : Type 0} (k : Kind A) where
+module _ {A : Type 0} (k : RecordLayout A) where
   free-in : (v : List ℕ) → eqb (getD v 0 0) 0 ≡ true → slotIn k v ≡ none
   unfolding slotIn
   free-in v e = rw e
@@ -68,7 +68,7 @@ module _ {A : Type 0} (k : Kind A) where
     zeros-order [] e = refl
     zeros-order (v ∷ vs) e = and-yes _ _ (zeros-after (slotIn k v) vs (and-right (allZero v) _ e)) (zeros-order vs (and-right (allZero v) _ e))
 
-module _ {A : Type 0} (k : Kind A) (ok : A → Bool) where
+module _ {A : Type 0} (k : RecordLayout A) (ok : A → Bool) where
   -- the test of a slot's numbers
   abbrev pub test : List ℕ → Bool
   test v = slotOk k (λ w. ok (k .of w)) v
@@ -102,7 +102,7 @@ module _ {A : Type 0} (k : Kind A) (ok : A → Bool) where
 
 -- ---- the pass tests the slots and the order
 
-module _ {A : Type 0} (k : Kind A) (ok : A → Bool) (first next : A → ℕ) where
+module _ {A : Type 0} (k : RecordLayout A) (ok : A → Bool) (first next : A → ℕ) where
   -- the pass: a free slot is followed by zeros alone; a held one is as it must be, and its record's first key is `least` or more
   abbrev pub scanOk : (least : ℕ) → List (List ℕ) → Bool
   scanOk least [] = true

@@ -16,10 +16,10 @@ use Rattle.basics.specs.Tests.{every}
 use Rattle.basics.specs.Lists.{All}
 use Rattle.basics.proofs.Tests.{either, and-left, and-right, and-yes, eq-yes, eq-no}
 use Rattle.records.specs.Pack.{size, WholeBytes, pack, unpack, cut, join}
-use Rattle.records.specs.Slots.{allZero, blank, Kind, whole, recordFields, slotOut, slotIn, slotOk, passes, slots, arrayIn, slotBytes, arrayOut, KindOk}
+use Rattle.records.specs.Slots.{allZero, zerosFor, RecordLayout, whole, recordFields, slotOut, slotIn, slotOk, passes, slots, arrayIn, slotBytes, arrayOut, RecordLaws}
 use Rattle.records.proofs.Parts.{Parts, length-cut, parts-cut, are-cut, length-join, are-join, join-append, join-cut, cut-join}
 use Rattle.records.proofs.Pack.{length-pack, are-pack, fit-unpack, unpack-pack, pack-unpack, unpack-within}
-use Rattle.records.proofs.Lists.{all-of-map, all-true, every-map-at, at-every-map, fails-every-map}
+use Rattle.records.proofs.Lists.{all-of-map, all-true}
 
 -- ---- lists of values
 
@@ -40,11 +40,11 @@ fit-drop [] xs v f = f
 fit-drop (w ∷ ws) xs [] f = absurd f
 fit-drop (w ∷ ws) xs (y ∷ v) f = fit-drop ws xs v (f .1)
 
-pub fit-blank : (ws : List ℕ) → Fit ws (blank ws)
+pub fit-blank : (ws : List ℕ) → Fit ws (zerosFor ws)
 fit-blank [] = tt
 fit-blank (w ∷ ws) = (pow-pos w, fit-blank ws)
 
-pub blank-zero : (ws : List ℕ) → allZero (blank ws) ≡ true
+pub blank-zero : (ws : List ℕ) → allZero (zerosFor ws) ≡ true
 blank-zero [] = refl
 blank-zero (w ∷ ws) = blank-zero ws
 
@@ -53,7 +53,7 @@ drop-zero zero v e = e
 drop-zero (suc n) [] e = refl
 drop-zero (suc n) (x ∷ v) e = drop-zero n v (and-right (eqb x 0) _ e)
 
-pub zero-blank : (ws v : List ℕ) → Fit ws v → allZero v ≡ true → blank ws ≡ v
+pub zero-blank : (ws v : List ℕ) → Fit ws v → allZero v ≡ true → zerosFor ws ≡ v
 zero-blank [] [] f e = refl
 zero-blank [] (x ∷ v) f e = absurd f
 zero-blank (w ∷ ws) [] f e = absurd f
@@ -62,25 +62,15 @@ zero-blank (w ∷ ws) (x ∷ v) f e =
 
 -- ---- one slot
 
--- what a kind owes for a test it owes for a narrower one
-pub narrower : {A : Type 0} (k : Kind A) (test test′ : List ℕ → Bool) → ((v : List ℕ) → test′ v ≡ true → test v ≡ true)
-    → KindOk k test → KindOk k test′
-narrower k test test′ h ok = record {
-  aligned = ok .aligned;
-  of-values = λ a e. ok .of-values a (h (k .values a) e);
-  values-of = λ v l e. ok .values-of v l (h v e);
-  fits = λ a e. ok .fits a (h (k .values a) e);
-}
-
 -- a slot's numbers have the record's fields, as many as there are widths
-length-fields : {A : Type 0} (k : Kind A) (x : ℕ) (v : List ℕ) → Fit (whole k) (x ∷ v) → length (recordFields k (x ∷ v)) ≡ length (k .widths)
+length-fields : {A : Type 0} (k : RecordLayout A) (x : ℕ) (v : List ℕ) → Fit (whole k) (x ∷ v) → length (recordFields k (x ∷ v)) ≡ length (k .widths)
 length-fields k x v f =
     length-take-le (length (k .widths)) v (omega (arith, fit-length (k .widths ++ k .zeros) v (f .1), length-append (k .widths) (k .zeros)))
 
-module _ {A : Type 0} (k : Kind A) (test : List ℕ → Bool) (ok : KindOk k test) where
+module _ {A : Type 0} (k : RecordLayout A) (test : List ℕ → Bool) (ok : RecordLaws k test) where
   -- the fields of a record that is there
-  fields-out : (a : A) → test (k .values a) ≡ true → recordFields k (1 ∷ (k .values a ++ blank (k .zeros))) ≡ k .values a
-  fields-out a e = take-at (k .values a) (blank (k .zeros)) (length (k .widths)) (fit-length (k .widths) (k .values a) (ok .fits a e))
+  fields-out : (a : A) → test (k .values a) ≡ true → recordFields k (1 ∷ (k .values a ++ zerosFor (k .zeros))) ≡ k .values a
+  fields-out a e = take-at (k .values a) (zerosFor (k .zeros)) (length (k .widths)) (fit-length (k .widths) (k .values a) (ok .fits a e))
 
   -- written and read again
   pub slot-in-out : (o : Option A) → passes k test o ≡ true → slotIn k (slotOut k o) ≡ o
@@ -91,7 +81,7 @@ module _ {A : Type 0} (k : Kind A) (test : List ℕ → Bool) (ok : KindOk k tes
   pub fit-slotOut : (o : Option A) → passes k test o ≡ true → Fit (whole k) (slotOut k o)
   unfolding slotOut
   fit-slotOut none e = fit-blank (whole k)
-  fit-slotOut (some a) e = (omega arith, fit-append (k .widths) (k .values a) (k .zeros) (blank (k .zeros)) (ok .fits a e) (fit-blank (k .zeros)))
+  fit-slotOut (some a) e = (omega arith, fit-append (k .widths) (k .values a) (k .zeros) (zerosFor (k .zeros)) (ok .fits a e) (fit-blank (k .zeros)))
 
   -- read and written again
   pub slot-out-in : (v : List ℕ) → Fit (whole k) v → slotOk k test v ≡ true → slotOut k (slotIn k v) ≡ v
@@ -102,7 +92,7 @@ module _ {A : Type 0} (k : Kind A) (test : List ℕ → Bool) (ok : KindOk k tes
       n : ℕ
       n = length (k .widths)
 
-      last : blank (k .zeros) ≡ drop n v
+      last : zerosFor (k .zeros) ≡ drop n v
       last = zero-blank (k .zeros) (drop n v) (fit-drop (k .widths) (k .zeros) v (f .1)) (and-left (allZero (drop n v)) _ e)
 
       rest : cond (eqb x 0) (allZero (x ∷ v)) (test (take n v)) ≡ true
@@ -123,10 +113,10 @@ module _ {A : Type 0} (k : Kind A) (test : List ℕ → Bool) (ok : KindOk k tes
   pub ok-slotOut : (o : Option A) → passes k test o ≡ true → slotOk k test (slotOut k o) ≡ true
   unfolding slotOut slotOk
   ok-slotOut none e =
-      and-yes _ _ (drop-zero (length (k .widths)) (blank (k .widths ++ k .zeros)) (blank-zero (k .widths ++ k .zeros))) (blank-zero (whole k))
+      and-yes _ _ (drop-zero (length (k .widths)) (zerosFor (k .widths ++ k .zeros)) (blank-zero (k .widths ++ k .zeros))) (blank-zero (whole k))
   ok-slotOut (some a) e =
       and-yes _ _
-      (ap allZero (drop-at (k .values a) (blank (k .zeros)) (length (k .widths)) (fit-length (k .widths) (k .values a) (ok .fits a e)))
+      (ap allZero (drop-at (k .values a) (zerosFor (k .zeros)) (length (k .widths)) (fit-length (k .widths) (k .values a) (ok .fits a e)))
       ∙ blank-zero (k .zeros))
       (ap test (fields-out a e) ∙ e)
 
@@ -144,7 +134,7 @@ module _ {A : Type 0} (k : Kind A) (test : List ℕ → Bool) (ok : KindOk k tes
 
 -- ---- arrays
 
-module _ {A : Type 0} (k : Kind A) where
+module _ {A : Type 0} (k : RecordLayout A) where
   parts : (os : List (Option A)) → Parts (size (whole k)) (map (slotBytes k) os)
   parts os = all-of-map (λ p. length p ≡ size (whole k)) (slotBytes k) os (all-true _ (λ o. length-pack (whole k) (slotOut k o)) os)
 
@@ -178,7 +168,7 @@ module _ {A : Type 0} (k : Kind A) where
   unfolding arrayIn
   length-arrayIn n b = length-map (slots k n b) (slotIn k) ∙ length-slots n b
 
-module _ {A : Type 0} (k : Kind A) (test : List ℕ → Bool) (ok : KindOk k test) where
+module _ {A : Type 0} (k : RecordLayout A) (test : List ℕ → Bool) (ok : RecordLaws k test) where
   -- the slots of an array that was written
   pub slots-arrayOut : (n : ℕ) (os : List (Option A)) (rest : List ℕ) → length os ≡ n → every (map (passes k test) os) ≡ true
       → slots k n (arrayOut k os ++ rest) ≡ map (slotOut k) os
@@ -241,7 +231,7 @@ module _ {A : Type 0} (k : Kind A) (test : List ℕ → Bool) (ok : KindOk k tes
 
 -- ---- slot i, read straight off the bytes
 
-module _ {A : Type 0} (k : Kind A) (e : WholeBytes (whole k)) where
+module _ {A : Type 0} (k : RecordLayout A) (e : WholeBytes (whole k)) where
   -- the numbers of slot i of n, the first of which begins at byte f
   pub slot-at : (n i f : ℕ) (b : List ℕ) → i < n → f + n * size (whole k) ≤ length b
       → getD (slots k n (drop f b)) i [] ≡ fields b (8 * (f + i * size (whole k))) (whole k)
@@ -265,18 +255,3 @@ module _ {A : Type 0} (k : Kind A) (e : WholeBytes (whole k)) where
       go [] j m = absurd (not-suc-le-zero m)
       go (v ∷ vs) zero m = refl
       go (v ∷ vs) (suc j) m = go vs j (le-of-suc-le-suc m)
-
-  -- a test of each of the n slots from byte f on, by their numbers
-  module _ (p : List ℕ → Bool) (n f : ℕ) (b : List ℕ) (h : f + n * size (whole k) ≤ length b) where
-    at-slot : (i : ℕ) → i < n → p (getD (slots k n (drop f b)) i []) ≡ p (fields b (8 * (f + i * size (whole k))) (whole k))
-    at-slot i l = ap p (slot-at n i f b l h)
-
-    pub slots-every : ((i : ℕ) → i < n → p (fields b (8 * (f + i * size (whole k))) (whole k)) ≡ true) → every (map p (slots k n (drop f b))) ≡ true
-    slots-every t =
-        at-every-map p [] (slots k n (drop f b)) (λ i l. let m : i < n = omega (arith, length-slots k n (drop f b)) in at-slot i m ∙ t i m)
-
-    pub every-slots : every (map p (slots k n (drop f b))) ≡ true → (i : ℕ) → i < n → p (fields b (8 * (f + i * size (whole k))) (whole k)) ≡ true
-    every-slots t i l = sym (at-slot i l) ∙ every-map-at p [] (slots k n (drop f b)) t i (omega (arith, length-slots k n (drop f b)))
-
-    pub slots-fail : (i : ℕ) → i < n → p (fields b (8 * (f + i * size (whole k))) (whole k)) ≡ false → every (map p (slots k n (drop f b))) ≡ false
-    slots-fail i l t = fails-every-map p [] (slots k n (drop f b)) i (omega (arith, length-slots k n (drop f b))) (at-slot i l ∙ t)

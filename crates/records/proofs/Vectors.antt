@@ -11,14 +11,14 @@ use Rattle.fields.specs.Field.{value, bitsOf, bits, bytes, fieldAt}
 use Rattle.fields.specs.Fields.{fields, fieldBits}
 use Rattle.basics.proofs.Tests.{and-left, and-right, lt-yes}
 use Rattle.records.specs.Pack.{size, pack, unpack, cut, join}
-use Rattle.records.specs.Slots.{Kind, whole, slotOut, slotIn, slotOk, slots, arrayIn, slotBytes, arrayOut, KindOk}
+use Rattle.records.specs.Slots.{RecordLayout, whole, slotOut, slotIn, slotOk, slots, arrayIn, slotBytes, arrayOut, RecordLaws}
 use Rattle.records.specs.Places.{places, inOrder}
 use Rattle.records.specs.Pairs.{everyPair}
 use Rattle.records.specs.Edits.{insertAt, removeAt, replaceAt, zeroAt, onPart}
 
 -- ---- a kind of record
 
-sample : Kind (ℕ × ℕ)
+sample : RecordLayout (ℕ × ℕ)
 sample = record { widths = 3 ∷ 7 ∷ []; zeros = 5 ∷ []; values = λ x. x .0 ∷ x .1 ∷ []; of = λ v. (getD v 0 0, getD v 1 0) }
 
 -- the second number is at most 100
@@ -26,7 +26,7 @@ sampleTest : List ℕ → Bool
 sampleTest v = ltb (getD v 0 0) 8 && ltb (getD v 1 0) 101
 
 -- it owes what a kind owes
-sample-ok : KindOk sample sampleTest
+sample-ok : RecordLaws sample sampleTest
 unfolding sample sampleTest size
 sample-ok = record { aligned = refl; of-values = λ a e. refl; values-of = two; fits = narrow }
   where

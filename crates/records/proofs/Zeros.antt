@@ -14,7 +14,7 @@ use Rattle.fields.specs.Fields.{sum, fields, fieldBits}
 use Rattle.fields.proofs.Laws.{are-take, are-drop}
 use Rattle.basics.proofs.Tests.{either, and-left, and-right, eq-yes}
 use Rattle.records.specs.Pack.{size, WholeBytes, pack, unpack, join}
-use Rattle.records.specs.Slots.{allZero, blank, Kind, whole, slotOut, slotBytes, arrayOut}
+use Rattle.records.specs.Slots.{allZero, zerosFor, RecordLayout, whole, slotOut, slotBytes, arrayOut}
 use Rattle.records.specs.Edits.{zeroAt}
 use Rattle.records.proofs.Pack.{fit-unpack, unpack-pack, pack-unpack, unpack-within}
 use Rattle.records.proofs.Slots.{fit-blank, blank-zero, zero-blank}
@@ -24,7 +24,7 @@ unfolding bitsOf
 bitsOf-zero zero = refl
 bitsOf-zero (suc w) = ap₂ (λ (n : ℕ) (l : List Bool). eqb (n % 2) 1 ∷ l) (zero-div (2 ^ w)) (bitsOf-zero w)
 
-fieldBits-blank : (ws : List ℕ) → fieldBits ws (blank ws) ≡ replicate (sum ws) false
+fieldBits-blank : (ws : List ℕ) → fieldBits ws (zerosFor ws) ≡ replicate (sum ws) false
 unfolding fieldBits
 fieldBits-blank [] = refl
 fieldBits-blank (w ∷ ws) = ap₂ (λ (a b : List Bool). a ++ b) (bitsOf-zero w) (fieldBits-blank ws) ∙ replicate-append-replicate w (sum ws) false
@@ -41,11 +41,11 @@ bytes-zero (suc n) =
     (ap (bytes n) (drop-at (replicate 8 false) (replicate (8 * n) false) 8 refl) ∙ bytes-zero n)
 
 -- a record of zeros
-pub pack-blank : (ws : List ℕ) → WholeBytes ws → pack ws (blank ws) ≡ replicate (size ws) 0
+pub pack-blank : (ws : List ℕ) → WholeBytes ws → pack ws (zerosFor ws) ≡ replicate (size ws) 0
 unfolding pack
 pack-blank ws e = ap (bytes (size ws)) (fieldBits-blank ws ∙ ap (λ (n : ℕ). replicate n false) e) ∙ bytes-zero (size ws)
 
-module _ {A : Type 0} (k : Kind A) (e : WholeBytes (whole k)) where
+module _ {A : Type 0} (k : RecordLayout A) (e : WholeBytes (whole k)) where
   pub free-slot : slotBytes k none ≡ replicate (size (whole k)) 0
   unfolding slotOut
   free-slot = pack-blank (whole k) e
@@ -81,7 +81,7 @@ unpack-zero ws b e h l = same-test (allZero b) (allZero (unpack ws b)) to from
     to : allZero b ≡ true → allZero (unpack ws b) ≡ true
     to z =
         ap (λ (x : List ℕ). allZero (unpack ws x)) (all-zero (size ws) b l z ∙ sym (pack-blank ws e))
-        ∙ ap allZero (unpack-pack ws (blank ws) e (fit-blank ws)) ∙ blank-zero ws
+        ∙ ap allZero (unpack-pack ws (zerosFor ws) e (fit-blank ws)) ∙ blank-zero ws
 
     from : allZero (unpack ws b) ≡ true → allZero b ≡ true
     from z =

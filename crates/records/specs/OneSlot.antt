@@ -7,9 +7,9 @@ use Prim.Native.Nat.{ℕ, _+_, _*_}
 use lib.Dec.{eqb}
 use lib.ListN.{getD, take, drop}
 use Rattle.records.specs.Pack.{size, unpack}
-use Rattle.records.specs.Slots.{Kind, whole, recordFields, slotBytes}
+use Rattle.records.specs.Slots.{RecordLayout, whole, recordFields, slotBytes}
 
-module _ {A : Type 0} (k : Kind A) where
+module _ {A : Type 0} (k : RecordLayout A) where
   -- the numbers of the slot
   unfoldable pub slotNumbers : List ℕ → List ℕ
   slotNumbers s = unpack (whole k) s

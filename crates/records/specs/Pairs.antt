@@ -8,9 +8,3 @@ module _ {A : Type 0} (p : A → A → Bool) where
   abbrev pub everyPair : List A → Bool
   everyPair [] = true
   everyPair (x ∷ xs) = every (map (p x) xs) && everyPair xs
-
-  -- each pair of neighbours passes
-  abbrev pub everyNeighbours : List A → Bool
-  everyNeighbours [] = true
-  everyNeighbours (x ∷ []) = true
-  everyNeighbours (x ∷ y ∷ xs) = p x y && everyNeighbours (y ∷ xs)

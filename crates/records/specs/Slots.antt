@@ -16,17 +16,17 @@ abbrev pub allZero : List ℕ → Bool
 allZero v = every (map (λ x. eqb x 0) v)
 
 -- a zero for each width
-abbrev pub blank : List ℕ → List ℕ
-blank ws = map (λ w. 0) ws
+abbrev pub zerosFor : List ℕ → List ℕ
+zerosFor ws = map (λ w. 0) ws
 
 -- a kind of record: the widths of its fields, those of the padding, the values of its fields, and the record of such values
-pub record Kind (A : Type 0) : Type 0 where
+pub record RecordLayout (A : Type 0) : Type 0 where
   pub widths : List ℕ
   pub zeros : List ℕ
   pub values : A → List ℕ
   pub of : List ℕ → A
 
-module _ {A : Type 0} (k : Kind A) where
+module _ {A : Type 0} (k : RecordLayout A) where
   -- the widths of a slot
   abbrev pub whole : List ℕ
   whole = 1 ∷ (k .widths ++ k .zeros)
@@ -37,8 +37,8 @@ module _ {A : Type 0} (k : Kind A) where
 
   -- the numbers of a slot, and what a slot of such numbers holds
   unfoldable pub slotOut : Option A → List ℕ
-  slotOut none = blank whole
-  slotOut (some a) = 1 ∷ (k .values a ++ blank (k .zeros))
+  slotOut none = zerosFor whole
+  slotOut (some a) = 1 ∷ (k .values a ++ zerosFor (k .zeros))
 
   unfoldable pub slotIn : List ℕ → Option A
   slotIn v = cond (eqb (getD v 0 0) 0) none (some (k .of (recordFields v)))
@@ -68,7 +68,7 @@ module _ {A : Type 0} (k : Kind A) where
 
 -- what a kind of record owes: a slot is of whole bytes; and where the fields pass the test, a record is that of its values, the values
 -- of a record are those that it was made of, and they fit their widths
-pub record KindOk {A : Type 0} (k : Kind A) (test : List ℕ → Bool) : Type 0 where
+pub record RecordLaws {A : Type 0} (k : RecordLayout A) (test : List ℕ → Bool) : Type 0 where
   pub aligned : WholeBytes (whole k)
   pub of-values : (a : A) → test (k .values a) ≡ true → k .of (k .values a) ≡ a
   pub values-of : (v : List ℕ) → length v ≡ length (k .widths) → test v ≡ true → k .values (k .of v) ≡ v

@@ -1,4 +1,6 @@
-// Records of any size in lent bytes: put in, taken out, written over, and tested for zeros.
+// Records of any size in lent bytes: put in, taken out, written over, and tested for zeros; and the numbers of one record.
+pub mod numbers;
+
 ghost use mathlib.Core.Path.{_≡_};
 ghost use Prim.Native.Nat.{_+_, _≤_};
 ghost use lib.ListN.{length, replicate};

@@ -2,14 +2,14 @@
 use mathlib.Core.Path.{_≡_, ap, _∙_}
 use mathlib.Core.List.{List}
 use Prim.Native.Nat.{ℕ}
-use Rattle.model.specs.Calls.{toldOf}
-use Rattle.model.specs.declared.Told.{Told}
+use Rattle.model.specs.Calls.{replyOf}
+use Rattle.model.specs.declared.Reply.{Reply}
 use Rattle.model.specs.declared.Answer.{Answer}
 use Rattle.session.specs.Replies.{holding}
 
 -- the line of the answer
-pub line-said : {line : Told} {a b : Answer} → line ≡ toldOf a → a ≡ b → line ≡ toldOf b
-line-said h e = h ∙ ap toldOf e
+pub line-said : {line : Reply} {a b : Answer} → line ≡ replyOf a → a ≡ b → line ≡ replyOf b
+line-said h e = h ∙ ap replyOf e
 
 -- another ledger with the same book, and another book with the same ledger
 pub ledger-left : {ledger after book : List ℕ} → after ≡ ledger → holding after book ≡ holding ledger book

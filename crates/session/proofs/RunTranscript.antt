@@ -4,22 +4,19 @@ use mathlib.Core.List.{List, [], _∷_, _++_, map}
 use Prim.Native.Nat.{ℕ}
 use native.Mathlib.Omega.{arith}
 use Rattle.text.specs.declared.reading.Command.{Command}
-use Rattle.model.specs.declared.Told.{Told}
+use Rattle.model.specs.declared.Reply.{Reply}
 use Rattle.text.specs.Pieces.{pieces, sameText}
 use Rattle.text.specs.Numbers.{digitsBy, digits, decimalValue, numberOf, numbersOf}
 use Rattle.text.specs.Commands.{formNamed, commandOf}
 use Rattle.text.specs.Lines.{lineText}
 use Rattle.model.specs.declared.Call.{Call}
-use Rattle.model.specs.Calls.{toldOf, requestOf}
+use Rattle.model.specs.Calls.{replyOf, requestOf}
 use Rattle.model.specs.History.{answersTo, ledgerMachine}
 use Rattle.model.specs.Run.{zeroBook, runCalls, runAnswers}
-use Rattle.model.proofs.Document01.{document01-laws}
 use Rattle.model.proofs.Refinement.{same-answers}
-use Rattle.model.proofs.BytesBalance.{bytes-refine}
 use Rattle.model.proofs.Run.{the-run}
-use Rattle.layout.specs.PackedLedger.{packedLedger}
-use Rattle.layout.proofs.PackedLedger.{packed-format}
 use Rattle.layout.specs.Present.{rules, machine}
+use Rattle.layout.proofs.Present.{machine-refines}
 use Rattle.session.specs.Replies.{initial}
 use Rattle.session.specs.Transcript.{commandsOfPieces, commandsOf, inputCommands, exchanges, printed, transcript}
 use Rattle.session.specs.RunTranscript.{runInput, runOutput, TheRunIsPrinted}
@@ -45,7 +42,7 @@ unfolding runInput runCommands inputCommands commandsOf commandsOfPieces command
 run-read = refl
 
 -- the text of lines
-linesText : List Told → List ℕ
+linesText : List Reply → List ℕ
 linesText [] = []
 linesText (line ∷ lines) = lineText line ++ linesText lines
 
@@ -54,16 +51,16 @@ run-lines : printed (exchanges initial runCommands) ≡ linesText (logOf runComm
 unfolding runCommands linesText printed logOf logCommand emptyLog
 run-lines = refl
 
-run-answers : logOf runCommands .lines ≡ map toldOf (answersTo machine 0 runCalls)
+run-answers : logOf runCommands .lines ≡ map replyOf (answersTo machine 0 runCalls)
 unfolding runCommands runCalls zeroBook logOf logCommand emptyLog
 run-answers = log-answers runCommands
 
 model-answers : answersTo machine 0 runCalls ≡ runAnswers
 model-answers =
-    same-answers machine (ledgerMachine rules) (bytes-refine rules document01-laws packedLedger packed-format) 0 (omega arith) runCalls
+    same-answers machine (ledgerMachine rules) machine-refines 0 (omega arith) runCalls
     ∙ the-run
 
-run-text : linesText (map toldOf runAnswers) ≡ runOutput
+run-text : linesText (map replyOf runAnswers) ≡ runOutput
 unfolding runAnswers runOutput linesText digits digitsBy
 run-text = refl
 
@@ -72,5 +69,5 @@ unfolding transcript
 the-run-is-printed =
     ap (λ (cs : List Command). printed (exchanges initial cs)) run-read
     ∙ run-lines
-    ∙ ap linesText (run-answers ∙ ap (map toldOf) model-answers)
+    ∙ ap linesText (run-answers ∙ ap (map replyOf) model-answers)
     ∙ run-text

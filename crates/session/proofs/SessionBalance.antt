@@ -8,16 +8,17 @@ use borrow.Author.Tests.{ltb-false}
 use lib.Dec.{ltb, eqb}
 use lib.ListN.{length, set}
 use Rattle.text.specs.declared.reading.Command.{Command}
-use Rattle.model.specs.declared.Told.{Told}
-use Rattle.model.specs.Calls.{toldOf, toldNumber, Call, asked, callTotal, _if_}
+use Rattle.model.specs.declared.Reply.{Reply}
+use Rattle.model.specs.declared.Call.{Call}
+use Rattle.model.specs.Calls.{replyOf, replyWithoutNumbers, CallWithBook, _with_, _if_}
 use Rattle.model.specs.Ledger.{fresh}
-use Rattle.model.specs.Format.{unlessRefused}
+use Rattle.model.specs.Rules.{unlessRefused}
 use Rattle.model.specs.History.{run, replies, sheetAfter, stateAfter, answersTo}
-use Rattle.model.specs.Document01Balance.{BalancedByRates}
+use Rattle.model.specs.BalanceByRates.{BalancedByRates}
 use Rattle.model.proofs.Refusals.{clear}
 use Rattle.layout.specs.Offsets.{ledgerLength}
-use Rattle.layout.proofs.PackedLedger.{demand-three}
 use Rattle.layout.specs.Present.{rules, bytes, machine}
+use Rattle.layout.proofs.Theorems.{demand-three}
 use Rattle.contract_calls.specs.Start.{startRefusal, doneUnlessRefused, startAnswer, startBytes}
 use Rattle.session.specs.Replies.{State, holding, initial, onLedger, badPrice, priceLine, bookWith, outcome, reply, next}
 use Rattle.session.specs.Transcript.{Exchange, exchanges, inputCommands}
@@ -39,11 +40,11 @@ record Agrees (s : State) (l : Log) : Type 0 where
   book : s .book ≡ l .book
   territory : l .territory ≤ 1
   bytes : s .ledger ≡ stateAfter machine (l .territory) (l .history)
-  answers : l .lines ≡ map toldOf (answersTo machine (l .territory) (l .history))
+  answers : l .lines ≡ map replyOf (answersTo machine (l .territory) (l .history))
 
 module _ (s : State) (l : Log) (a : Agrees s l) where
   -- after a call of the history
-  agrees-call : (c : Call) → Agrees (onLedger s c .next) (withCall l c (onLedger s c .line))
+  agrees-call : (c : CallWithBook) → Agrees (onLedger s c .next) (withCall l c (onLedger s c .line))
   unfolding stateAfter answersTo
   agrees-call c =
       let t = l .territory in
@@ -54,12 +55,12 @@ module _ (s : State) (l : Log) (a : Agrees s l) where
         territory = a .territory;
         bytes = ap (λ (b : List ℕ). machine .step b c) (a .bytes) ∙ sym (run-more (machine .step) (l .history) (machine .start t) c);
         answers =
-            ap₂ (λ (ls : List Told) (b : List ℕ). ls ++ (toldOf (machine .answer b c) ∷ [])) (a .answers) (a .bytes)
-            ∙ sym (ap (map toldOf) more ∙ map-append toldOf answered (machine .answer (run (machine .step) (machine .start t) (l .history)) c ∷ []));
+            ap₂ (λ (ls : List Reply) (b : List ℕ). ls ++ (replyOf (machine .answer b c) ∷ [])) (a .answers) (a .bytes)
+            ∙ sym (ap (map replyOf) more ∙ map-append replyOf answered (machine .answer (run (machine .step) (machine .start t) (l .history)) c ∷ []));
       }
 
   -- a bill or rebill comes with the program's book, which is the log's
-  agrees-request : (call : List ℕ → Call) → Agrees (onLedger s (call (s .book)) .next) (withCall l (call (l .book)) (onLedger s (call (s .book)) .line))
+  agrees-request : (call : List ℕ → CallWithBook) → Agrees (onLedger s (call (s .book)) .next) (withCall l (call (l .book)) (onLedger s (call (s .book)) .line))
   agrees-request call =
       subst (λ (b : List ℕ). Agrees (onLedger s (call (s .book)) .next) (withCall l (call b) (onLedger s (call (s .book)) .line))) (a .book) (agrees-call (call (s .book)))
 
@@ -69,14 +70,14 @@ module _ (s : State) (l : Log) (a : Agrees s l) where
   start-territory t e = ltb-false 1 t (clear ((2 if not (eqb (length (s .ledger)) ledgerLength)) ∷ (6 if ltb 1 t) ∷ []) tt e 6)
 
   agrees-start-by : (t n : ℕ) → startRefusal (s .ledger) t ≡ n
-      → Agrees (holding (unlessRefused n (bytes (fresh t)) (s .ledger)) (s .book)) (cond (isOk (toldOf (doneUnlessRefused n))) (record { book = l .book; territory = t; history = []; lines = [] }) l)
+      → Agrees (holding (unlessRefused n (bytes (fresh t)) (s .ledger)) (s .book)) (cond (isOk (replyOf (doneUnlessRefused n))) (record { book = l .book; territory = t; history = []; lines = [] }) l)
   unfolding stateAfter answersTo
   agrees-start-by t zero e = record { book = a .book; territory = start-territory t e; bytes = refl; answers = refl }
   agrees-start-by t (suc n) e = record { book = a .book; territory = a .territory; bytes = a .bytes; answers = a .answers }
 
   -- after a price, by whether it is turned down
   agrees-price-by : (index value : ℕ) (t : Bool) → Agrees (holding (s .ledger) (cond t (s .book) (set (s .book) index value)))
-      (cond (isOk (cond t (toldNumber 8) (toldNumber 0))) (record { book = set (l .book) index value; territory = l .territory; history = l .history; lines = l .lines }) l)
+      (cond (isOk (cond t (replyWithoutNumbers 8) (replyWithoutNumbers 0))) (record { book = set (l .book) index value; territory = l .territory; history = l .history; lines = l .lines }) l)
   agrees-price-by index value true = record { book = a .book; territory = a .territory; bytes = a .bytes; answers = a .answers }
   agrees-price-by index value false =
       record { book = ap (λ (b : List ℕ). set b index value) (a .book); territory = a .territory; bytes = a .bytes; answers = a .answers }
@@ -85,7 +86,7 @@ module _ (s : State) (l : Log) (a : Agrees s l) where
   agrees-next : (c : Command) → Agrees (next s c) (logCommand l c (reply s c))
   unfolding outcome logCommand startAnswer startBytes priceLine bookWith
   agrees-next (Command.Start territory) = agrees-start-by territory (startRefusal (s .ledger) territory) refl
-  agrees-next (Command.OnLedger c) = agrees-request (asked c)
+  agrees-next (Command.OnLedger c) = agrees-request (_with_ c)
   agrees-next (Command.Day year month day) = a
   agrees-next (Command.Date day) = a
   agrees-next (Command.Price index value) = agrees-price-by index value (badPrice index value)
@@ -104,7 +105,7 @@ unfolding stateAfterCommands logOf
 agrees cs = agrees-after cs initial emptyLog agrees-first
 
 -- the lines printed for the history's calls are those of its answers
-pub log-answers : (cs : List Command) → logOf cs .lines ≡ map toldOf (answersTo machine (logOf cs .territory) (logOf cs .history))
+pub log-answers : (cs : List Command) → logOf cs .lines ≡ map replyOf (answersTo machine (logOf cs .territory) (logOf cs .history))
 log-answers cs = agrees cs .answers
 
 pub every-session-balances : EverySessionBalances
@@ -117,7 +118,7 @@ every-session-balances input =
       answers = a .answers;
       balanced =
           subst
-          (λ (b : List ℕ). BalancedByRates (sheetAfter rules (l .territory) (l .history)) (answersTo machine (l .territory) (l .history)) (machine .answer b callTotal) (machine .facts b .rows))
+          (λ (b : List ℕ). BalancedByRates (sheetAfter rules (l .territory) (l .history)) (answersTo machine (l .territory) (l .history)) (machine .answer b (Call.Total with [])) (machine .facts b .rows))
           (sym (a .bytes))
           (demand-three .balances (l .territory) (a .territory) (l .history));
     }

@@ -5,13 +5,15 @@ use mathlib.Core.Bool.{Bool, true, false, cond}
 use mathlib.Core.List.{List, [], _∷_, _++_, map}
 use Prim.Native.Nat.{ℕ, zero, suc, _≤_}
 use lib.ListN.{replicate, set}
+use Rattle.limits.specs.Limits.{bookLength}
 use Rattle.text.specs.declared.reading.Command.{Command}
-use Rattle.model.specs.declared.Told.{Told}
-use Rattle.model.specs.Calls.{toldOf, toldNumber, Call, asked, callTotal}
+use Rattle.model.specs.declared.Reply.{Reply}
+use Rattle.model.specs.declared.Call.{Call}
+use Rattle.model.specs.Calls.{replyOf, CallWithBook, _with_}
 use Rattle.model.specs.History.{run, sheetAfter, stateAfter, answersTo}
-use Rattle.model.specs.Document01Balance.{BalancedByRates}
+use Rattle.model.specs.BalanceByRates.{BalancedByRates}
 use Rattle.layout.specs.Present.{rules, machine}
-use Rattle.session.specs.Replies.{State, bookLength, initial, next}
+use Rattle.session.specs.Replies.{State, initial, next}
 use Rattle.session.specs.Transcript.{exchanges, inputCommands}
 
 -- what is read off the exchanges of a session, and no byte of the ledger: the book as it then is, and since the last accepted start (or the
@@ -19,8 +21,8 @@ use Rattle.session.specs.Transcript.{exchanges, inputCommands}
 pub record Log : Type 0 where
   pub book : List ℕ
   pub territory : ℕ
-  pub history : List Call
-  pub lines : List Told
+  pub history : List CallWithBook
+  pub lines : List Reply
 
 -- at first: a book of zeros, and a fresh Great Britain ledger
 unfoldable pub emptyLog : Log
@@ -30,17 +32,17 @@ abbrev pub isZero : ℕ → Bool
 isZero zero = true
 isZero (suc n) = false
 
-abbrev pub isOk : Told → Bool
+abbrev pub isOk : Reply → Bool
 isOk t = isZero (t .refused)
 
 -- a call of the history, and the line printed for it
-abbrev pub withCall : Log → Call → Told → Log
+abbrev pub withCall : Log → CallWithBook → Reply → Log
 withCall l c line = record { book = l .book; territory = l .territory; history = l .history ++ (c ∷ []); lines = l .lines ++ (line ∷ []) }
 
 -- an accepted start begins a history; an accepted price changes the book; day, date and what can't be read are no part of a history
-unfoldable pub logCommand : Log → Command → Told → Log
+unfoldable pub logCommand : Log → Command → Reply → Log
 logCommand l (Command.Start territory) line = cond (isOk line) (record { book = l .book; territory = territory; history = []; lines = [] }) l
-logCommand l (Command.OnLedger c) line = withCall l (asked c (l .book)) line
+logCommand l (Command.OnLedger c) line = withCall l (c with (l .book)) line
 logCommand l (Command.Day year month day) line = l
 logCommand l (Command.Date day) line = l
 logCommand l (Command.Price index value) line =
@@ -60,9 +62,9 @@ pub record HistoryBalances (log : Log) (ledger : List ℕ) : Type 0 where
   -- the ledger is the one that the history leaves
   pub bytes : ledger ≡ stateAfter machine (log .territory) (log .history)
   -- the lines printed are those of the history's answers
-  pub answers : log .lines ≡ map toldOf (answersTo machine (log .territory) (log .history))
+  pub answers : log .lines ≡ map replyOf (answersTo machine (log .territory) (log .history))
   -- demand 3, of that history: with the answers printed, and the answer to a total called next
-  pub balanced : BalancedByRates (sheetAfter rules (log .territory) (log .history)) (answersTo machine (log .territory) (log .history)) (machine .answer ledger callTotal) (machine .facts ledger .rows)
+  pub balanced : BalancedByRates (sheetAfter rules (log .territory) (log .history)) (answersTo machine (log .territory) (log .history)) (machine .answer ledger (Call.Total with [])) (machine .facts ledger .rows)
 
 -- for every input
 abbrev pub EverySessionBalances : Type 0

@@ -1,15 +1,15 @@
 -- Document 01, "The program and one run": all that the program prints of an input. Assumes nothing.
 use mathlib.Core.Bool.{cond}
 use mathlib.Core.List.{List, [], _∷_, _++_}
-use Prim.Native.Nat.{ℕ, _*_}
+use Prim.Native.Nat.{ℕ, _+_, _*_, _/_}
 use lib.Dec.{eqb, ltb}
 use lib.ListN.{length}
 use Rattle.text.specs.declared.reading.Command.{Command}
-use Rattle.model.specs.declared.Told.{Told}
+use Rattle.model.specs.declared.Reply.{Reply}
 use Rattle.text.specs.Bytes.{lineFeed}
 use Rattle.text.specs.Pieces.{pieces}
-use Rattle.text.specs.Commands.{commandOf}
-use Rattle.text.specs.Lines.{lineText}
+use Rattle.text.specs.Commands.{commandOf, shortestLine}
+use Rattle.text.specs.Lines.{lineText, longestLine}
 use Rattle.model.specs.History.{replies}
 use Rattle.session.specs.Replies.{State, initial, reply, next}
 
@@ -34,7 +34,7 @@ inputCommands input = cond (ltb mostInput (length input)) (Command.Unreadable �
 -- a command, and the line that is printed for it
 pub record Exchange : Type 0 where
   pub command : Command
-  pub line : Told
+  pub line : Reply
 
 abbrev pub exchange : State → Command → Exchange
 exchange s c = record { command = c; line = reply s c }
@@ -52,9 +52,10 @@ printed (e ∷ es) = lineText (e .line) ++ printed es
 unfoldable pub transcript : List ℕ → List ℕ
 transcript input = printed (exchanges initial (inputCommands input))
 
--- no line printed is longer than this many bytes for each byte of the line read, its line feed included
+-- no line printed is longer than this many bytes for each byte of the line read, its line feed included: the longest line for the shortest
+-- that can be read, rounded up
 abbrev pub outputPerByte : ℕ
-outputPerByte = 11
+outputPerByte = (longestLine + shortestLine) / (shortestLine + 1)
 
 -- so no output is longer
 abbrev pub mostOutput : ℕ

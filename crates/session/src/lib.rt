@@ -1,30 +1,35 @@
 // A session of the program: the whole input to the whole output.
 mod replies;
 
-use calls::told::told_number;
+use calls::replies::reply_without_numbers;
 use layout::LEDGER_LENGTH;
+use limits::BOOK_LENGTH;
 use replies::UNREADABLE;
 use replies::reply;
 use text::pieces::find;
+use text::reading::SHORTEST_LINE;
 use text::reading::read_command;
+use text::writing::LONGEST_LINE;
 use text::writing::write_line;
 ghost use mathlib.Core.Path.{_≡_};
 ghost use Prim.Native.Nat.{_+_, _*_, _≤_};
 ghost use lib.ListN.{length};
-ghost use Rattle.model.specs.Calls.{toldNumber};
+ghost use Rattle.limits.specs.Limits.{bookLength};
+ghost use Rattle.model.specs.Calls.{replyWithoutNumbers};
 ghost use Rattle.text.specs.Commands.{commandOf};
 ghost use Rattle.text.specs.Lines.{lineText, WroteWithin};
-ghost use Rattle.session.specs.Replies.{holding, bookLength, reply, next};
+ghost use Rattle.session.specs.Replies.{holding, reply, next};
 ghost use Rattle.session.specs.Transcript.{commandsOf, exchanges, printed, transcript, outputPerByte, mostOutput};
 
 // The most bytes that the program reads.
 pub const MOST_INPUT: usize = 65536;
 
-// No output is longer: 11 bytes for each byte read.
-pub const MOST_OUTPUT: usize = 11 * MOST_INPUT;
+// No line printed is longer than this many bytes for each byte of the line read, its line feed included: the longest line for the
+// shortest that can be read, rounded up.
+const OUTPUT_PER_BYTE: usize = (LONGEST_LINE + SHORTEST_LINE) / (SHORTEST_LINE + 1);
 
-// The number of the book's entries.
-const BOOK_LENGTH: usize = 1740;
+// So no output is longer.
+pub const MOST_OUTPUT: usize = OUTPUT_PER_BYTE * MOST_INPUT;
 
 // The territory of the ledger at first: Great Britain.
 const GREAT_BRITAIN: u32 = 0;
@@ -48,9 +53,9 @@ fn reply_to_line(
 // Writes the line of what can't be read from `at` on.
 fn write_unreadable(out: &mut [u8], at: usize) -> usize
     requires { ⌜ at + 10 ≤ length (now out) ⌝ }
-    ensures { λ r. ⌜ WroteWithin 10 (now (out .entry)) (now (out .exit)) at r (lineText (toldNumber 1)) ⌝ }
+    ensures { λ r. ⌜ WroteWithin 10 (now (out .entry)) (now (out .exit)) at r (lineText (replyWithoutNumbers 1)) ⌝ }
 {
-    write_line(out, at, told_number(UNREADABLE))
+    write_line(out, at, reply_without_numbers(UNREADABLE))
 }
 
 // All lines of a text.

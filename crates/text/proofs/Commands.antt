@@ -1,7 +1,7 @@
 -- A line's command from its name and its numbers. Assumes nothing.
 use mathlib.Core.Path.{_≡_, refl, sym, ap, _∙_}
 use mathlib.Core.Bool.{Bool, true, false, cond}
-use mathlib.Core.List.{List, [], _∷_}
+use mathlib.Core.List.{List, [], _∷_, _++_}
 use mathlib.Core.Option.{Option, none, some}
 use Prim.Native.Nat.{ℕ, zero, suc, _+_, _≤_, _<_}
 use native.Mathlib.Omega.{arith}
@@ -11,7 +11,7 @@ use lib.ListN.{length, getD, take, drop, length-take}
 use lib.Seq.{drop-cons}
 use Rattle.text.specs.declared.pieces.Found.{Found}
 use Rattle.text.specs.declared.reading.Command.{Command}
-use Rattle.text.specs.Bytes.{bytes, space}
+use Rattle.text.specs.Bytes.{space}
 use Rattle.text.specs.Pieces.{PieceEnds, pieces, piecesAfter, placeFrom}
 use Rattle.text.specs.Numbers.{numbersOf}
 use Rattle.text.specs.Commands.{Takes, Form, forms, formNamed, commandWith, commandBy, commandOfWords, commandOf}
@@ -32,10 +32,6 @@ from-part zero make ns i h = refl
 from-part (suc k) make ns i h =
     let l : i < length ns = omega arith in
     rw (drop-cons ns i 0 l) (from-part k (make (getD ns i 0)) ns (suc i) (omega arith))
-
--- the command at a place that is known
-pub at-place : (place k : ℕ) (ns : List ℕ) → place ≡ k → commandFrom (formAt k .count) (formAt k .make) ns 0 ≡ commandFrom (formAt place .count) (formAt place .make) ns 0
-at-place place k ns e = ap (λ (i : ℕ). commandFrom (formAt i .count) (formAt i .make) ns 0) (sym e)
 
 none-by : (k : ℕ) (make : Takes k) (ns : List ℕ) (t : Bool) → eqb (length ns) k ≡ t → none ≡ cond t (some ns) none → Command.Unreadable ≡ commandWith k make ns
 none-by k make ns true e h = let z : _≡_ {A = ℕ} 0 1 = cc in absurd (omega arith)
@@ -62,38 +58,44 @@ some-numbers f ms none h = let z : _≡_ {A = ℕ} 0 1 = cc in absurd (omega ari
 some-numbers f ms (some ns) h = some-by (f .count) (f .make) ms ns (eqb (length ns) (f .count)) h
 
 -- ---- the names of the table, as one text of words
+words : List Form → List ℕ
+words [] = []
+words (f ∷ []) = f .name
+words (f ∷ g ∷ fs) = f .name ++ (space ∷ words (g ∷ fs))
+
 unfoldable pub nameWords : List ℕ
-nameWords = bytes "start open bill rebill cert cancel claim report total day date price"
+unfolding words
+nameWords = words forms
 
 all-names : pieces space nameWords ≡ names forms
 unfolding nameWords names pieces
 all-names = refl
 
-pub place-below : (i : ℕ) (word : List ℕ) → Found.At i ≡ placeFrom 0 (pieces space nameWords) word → i < length forms
-unfolding names
-place-below i word h = omega (arith, place-within 0 i (pieces space nameWords) word h, ap length all-names)
-
--- ---- the line s, whose name ends at `end`
-module _ (s : List ℕ) (end : ℕ) (h : PieceEnds space s 0 end) where
+-- ---- the line s, whose name ends at `end`, and x is the place of its name
+module _ {s : List ℕ} {end : ℕ} (h : PieceEnds space s 0 end) {x : Found} (w : x ≡ placeFrom 0 (pieces space nameWords) (take end s)) where
   by-name : commandOf s ≡ commandBy (formNamed forms (take end s)) (numbersOf (piecesAfter space s end))
   unfolding commandOf
   by-name = ap commandOfWords (front-piece space s end h)
 
-  pub unknown-name : Found.Nowhere ≡ placeFrom 0 (pieces space nameWords) (take end s) → Command.Unreadable ≡ commandOf s
-  unknown-name w = sym (by-name ∙ rw (named-nowhere 0 forms (take end s) (w ∙ rw all-names)))
+  pub unknown-name : x ≡ Found.Nowhere → Command.Unreadable ≡ commandOf s
+  unknown-name e = sym (by-name ∙ rw (named-nowhere 0 forms (take end s) (sym e ∙ w ∙ rw all-names)))
 
-  module _ (i : ℕ) (w : Found.At i ≡ placeFrom 0 (pieces space nameWords) (take end s)) where
+  module _ {i : ℕ} (e : x ≡ Found.At i) where
+    pub place-below : i < length forms
+    unfolding names
+    place-below = omega (arith, place-within 0 i (pieces space nameWords) (take end s) (sym e ∙ w), ap length all-names)
+
     by-form : commandOf s ≡ commandBy (some (formAt i)) (numbersOf (piecesAfter space s end))
-    by-form = by-name ∙ rw (named-at forms noForm (take end s) i 0 forms refl (w ∙ rw all-names))
+    by-form = by-name ∙ rw (named-at forms noForm (take end s) i 0 forms refl (sym e ∙ w ∙ rw all-names))
 
-    module _ (count : ℕ) (r : Bool) (ns : List ℕ) (k : count ≡ formAt i .count) (x : numbersIf r (take count ns) ≡ exactly count (numbersOf (piecesAfter space s end))) where
+    module _ {count : ℕ} (k : count ≡ formAt i .count) (r : Bool) (ns : List ℕ) (y : numbersIf r (take count ns) ≡ exactly count (numbersOf (piecesAfter space s end))) where
       pub not-its-numbers : r ≡ false → Command.Unreadable ≡ commandOf s
-      not-its-numbers e = no-numbers (formAt i) (numbersOf (piecesAfter space s end)) (rw (e, k) at x) ∙ sym by-form
+      not-its-numbers f = no-numbers (formAt i) (numbersOf (piecesAfter space s end)) (rw (f, k) at y) ∙ sym by-form
 
       pub its-numbers : r ≡ true → commandFrom (formAt i .count) (formAt i .make) ns 0 ≡ commandOf s
-      its-numbers e =
-          let y : some (take (formAt i .count) ns) ≡ exactly (formAt i .count) (numbersOf (piecesAfter space s end)) = rw (e, k) at x in
-          let l = exact-length (formAt i .count) (take (formAt i .count) ns) (numbersOf (piecesAfter space s end)) y in
+      its-numbers f =
+          let z : some (take (formAt i .count) ns) ≡ exactly (formAt i .count) (numbersOf (piecesAfter space s end)) = rw (f, k) at y in
+          let l = exact-length (formAt i .count) (take (formAt i .count) ns) (numbersOf (piecesAfter space s end)) z in
           from-part (formAt i .count) (formAt i .make) ns 0 (omega (arith, l, length-take (formAt i .count) ns))
-          ∙ some-numbers (formAt i) (take (formAt i .count) ns) (numbersOf (piecesAfter space s end)) y
+          ∙ some-numbers (formAt i) (take (formAt i .count) ns) (numbersOf (piecesAfter space s end)) z
           ∙ sym by-form

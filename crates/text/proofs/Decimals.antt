@@ -8,6 +8,8 @@ use native.Mathlib.Omega.{arith}
 use borrow.Author.Tests.{le-leb, lt-leb}
 use lib.ListN.{length, getD, drop, drop-of-length-le}
 use lib.Seq.{drop-cons}
+use mir.Syntax.{w64}
+use mir.Val.{Fits}
 use Rattle.text.specs.declared.reading.Decimal.{Decimal}
 use Rattle.text.specs.Numbers.{decimalValue}
 
@@ -17,7 +19,7 @@ pub record Valued (w : List ℕ) (v i : ℕ) : Type 0 where
   pub small : v < 10 ^ i
   pub rest : decimalValue v (drop i w) ≡ decimalValue 0 w
 
-module _ (w : List ℕ) (v i : ℕ) (so : Valued w v i) where
+module _ {w : List ℕ} {v i : ℕ} (so : Valued w v i) where
   pub digit-on : i < length w → 48 ≤ getD w i 0 → getD w i 0 ≤ 57 → Valued w (v * 10 + (getD w i 0 - 48)) (i + 1)
   unfolding decimalValue
   digit-on h l u =
@@ -43,9 +45,15 @@ module _ (w : List ℕ) (v i : ℕ) (so : Valued w v i) where
       let e : decimalValue v (drop i w) ≡ Decimal.NotDecimal = rw (drop-cons w i 0 h) (simp (le-leb 48 _ l, lt-leb _ 57 u)) in
       sym e ∙ so .rest
 
-  -- before the last of at most ten digits
-  pub nine-digits : length w ≤ 10 → i < length w → v < 10 ^ 9
-  nine-digits t h =
+  -- at most ten digits fit
+  ten-digits : length w ≤ 10 → i < length w → v < 10 ^ 9
+  ten-digits t h =
       let k : i ≤ 9 = omega arith in
       let z : 0 < 10 = omega arith in
       omega (arith, so .small, pow-le-pow-right z k)
+
+  pub tens-fit : length w ≤ 10 → i < length w → Fits w64 (v * 10)
+  tens-fit t h = record { fits = omega (arith, ten-digits t h) }
+
+  pub digit-fits : (d : ℕ) → length w ≤ 10 → i < length w → d ≤ 57 → Fits w64 (v * 10 + (d - 48))
+  digit-fits d t h u = record { fits = omega (arith, ten-digits t h) }

@@ -1,8 +1,8 @@
--- The sign and the absolute value of an integer of 64 bits. Assumes nothing.
-use mathlib.Core.Path.{_≡_, refl, ap, _∙_}
-use mathlib.Core.Bool.{true, false}
-use mathlib.Core.List.{_∷_}
-use Prim.Native.Nat.{ℕ, zero, suc, _-_, _≤_, _<_, _^_, zero-le}
+-- The sign, the absolute value and the text of an integer of 64 bits. Assumes nothing.
+use mathlib.Core.Path.{_≡_, refl, sym, ap, _∙_}
+use mathlib.Core.Bool.{Bool, true, false}
+use mathlib.Core.List.{List, [], _∷_}
+use Prim.Native.Nat.{ℕ, zero, suc, _+_, _-_, _≤_, _<_, _^_, zero-le}
 use native.Mathlib.Nat.{zero-add}
 use native.Mathlib.Omega.{arith}
 use borrow.Author.Tests.{le-ltb, lt-ltb}
@@ -11,9 +11,12 @@ use lib.IntN.{ℤ, pos, negsuc, natAbs, negℤ, _+ℤ_, _-ℤ_}
 use lib.ListN.{length}
 use lib.Signed.{nonNeg, ltZ}
 use mir.Syntax.{w64}
-use mir.Val.{SFits, Fits}
+use mir.Val.{SFits, Fits, toZ, ofZ}
+use mir.ValLaws.{toZ-ofZ}
 use Rattle.text.specs.Numbers.{digits, signed, isNegative}
+use Rattle.text.specs.Lines.{Wrote, WroteWithin}
 use Rattle.text.proofs.Digits.{few-digits}
+use Rattle.text.proofs.Writes.{within-room, within-then, within-same}
 
 pub below-zero : (x : ℤ) → ltZ x (pos 0) ≡ isNegative x
 below-zero (pos n) = le-ltb n 0 zero-le
@@ -52,14 +55,38 @@ positive-cast (pos n) h t = (tt, record { fits = omega (arith, h .sfits) })
 positive-cast (negsuc n) h t = let w : _≡_ {A = ℕ} 0 1 = cc in absurd (omega arith)
 
 -- ---- the text of an integer
-pub negative-text : (x : ℤ) → isNegative x ≡ true → signed x ≡ 45 ∷ digits (natAbs x)
+negative-text : (x : ℤ) → isNegative x ≡ true → signed x ≡ 45 ∷ digits (natAbs x)
 negative-text (pos n) t = let w : _≡_ {A = ℕ} 0 1 = cc in absurd (omega arith)
 negative-text (negsuc n) t = refl
 
-pub positive-text : (x : ℤ) → isNegative x ≡ false → signed x ≡ digits (natAbs x)
+positive-text : (x : ℤ) → isNegative x ≡ false → signed x ≡ digits (natAbs x)
 positive-text (pos n) t = refl
 positive-text (negsuc n) t = let w : _≡_ {A = ℕ} 0 1 = cc in absurd (omega arith)
 
-pub nineteen-digits : (x : ℤ) → SFits w64 x → length (digits (natAbs x)) ≤ 19
+nineteen-digits : (x : ℤ) → SFits w64 x → length (digits (natAbs x)) ≤ 19
 nineteen-digits (pos n) h = few-digits 18 n (omega (arith, h .sfits))
 nineteen-digits (negsuc n) h = few-digits 18 (suc n) (omega (arith, h .sfits))
+
+-- an integer x that is passed on is read back from its bits; n is its absolute value
+module _ (x : ℤ) (h : SFits w64 x) {n : ℕ} (size : n ≡ natAbs (toZ w64 (ofZ w64 x))) where
+  digits-of : digits n ≡ digits (natAbs x)
+  digits-of = ap digits (size ∙ ap natAbs (toZ-ofZ w64 x h))
+
+  at-most-19 : length (digits n) ≤ 19
+  at-most-19 = rw digits-of (nineteen-digits x h)
+
+  pub digits-first : (at m : ℕ) → at + 20 ≤ m → at + length (digits n) ≤ m
+  digits-first at m l = omega (arith, at-most-19)
+
+  pub digits-after : {d e : List ℕ} {at p : ℕ} → Wrote d e at p (45 ∷ []) → length e ≡ length d → at + 20 ≤ length d → p + length (digits n) ≤ length e
+  digits-after v k l = omega (arith, v .reached, at-most-19)
+
+  module _ {b : Bool} (sign : b ≡ isNegative (toZ w64 (ofZ w64 x))) where
+    same-sign : isNegative x ≡ b
+    same-sign = sym (sign ∙ ap isNegative (toZ-ofZ w64 x h))
+
+    pub negative-within : {d e f : List ℕ} {at p r : ℕ} → b ≡ true → Wrote d e at p (45 ∷ []) → Wrote e f p r (digits n) → WroteWithin 20 d f at r (signed x)
+    negative-within t v w = within-same (within-then (within-room 1 v (omega arith)) (within-room 19 w at-most-19)) (rw digits-of (sym (negative-text x (same-sign ∙ t))))
+
+    pub positive-within : {d e : List ℕ} {at r : ℕ} → b ≡ false → Wrote d e at r (digits n) → WroteWithin 20 d e at r (signed x)
+    positive-within t w = within-same (within-room 20 w (omega (arith, at-most-19))) (rw digits-of (sym (positive-text x (same-sign ∙ t))))

@@ -3,6 +3,7 @@ pub mod PieceLaws
 pub mod SameText
 pub mod Places
 pub mod Decimals
+pub mod WordTests
 pub mod Numbers
 pub mod Commands
 pub mod Digits
@@ -12,4 +13,3 @@ pub mod Writes
 pub mod ShortestLines
 pub mod LineRoom
 pub mod NumberTexts
-pub mod Run

@@ -6,6 +6,7 @@ use Prim.Native.Nat.{ℕ, _+_, _-_, _≤_, _<_}
 use native.Mathlib.Numerals.{add-one}
 use native.Mathlib.Omega.{arith}
 use borrow.Author.Tests.{eq-eqb, ne-eqb}
+use lib.Arith.{lt-of-le-ne}
 use lib.ListN.{length, take, drop, set, length-append, length-set}
 use lib.Seq.{take-suc-set, length-take-le}
 use Rattle.text.specs.declared.reading.Parsed.{Parsed}
@@ -39,29 +40,29 @@ too-many l (Parsed.Value n) (some ns) count h = simp (ne-eqb (length (l ++ (n �
 pub record Gathered (s : List ℕ) (from count : ℕ) (ns : List ℕ) (end k : ℕ) : Type 0 where
   pub inside : end ≤ length s
   pub few : k ≤ count
+  pub most : count ≤ mostNumbers
   pub long : length ns ≡ mostNumbers
   pub rest : numbersOf (piecesAfter space s from) ≡ after (take k ns) (numbersOf (piecesAfter space s end))
 
-pub none-gathered : (s : List ℕ) (from count : ℕ) (ns : List ℕ) → from ≤ length s → length ns ≡ mostNumbers → Gathered s from count ns from 0
-none-gathered s from count ns h l = record { inside = h; few = omega arith; long = l; rest = after-nothing (numbersOf (piecesAfter space s from)) }
+pub none-gathered : (s : List ℕ) (from count : ℕ) (ns : List ℕ) → from ≤ length s → count ≤ mostNumbers → length ns ≡ mostNumbers → Gathered s from count ns from 0
+none-gathered s from count ns h m l = record { inside = h; few = omega arith; most = m; long = l; rest = after-nothing (numbersOf (piecesAfter space s from)) }
 
-module _ (s : List ℕ) (from count : ℕ) (ns : List ℕ) (end k : ℕ) (so : Gathered s from count ns end k) (most : count ≤ mostNumbers) where
+module _ {s : List ℕ} {from count : ℕ} {ns : List ℕ} {end k : ℕ} (so : Gathered s from count ns end k) where
   taken : length (take k ns) ≡ k
-  taken = length-take-le k ns (omega (arith, so .few, so .long))
+  taken = length-take-le k ns (omega (arith, so .few, so .most, so .long))
 
   -- the line ends
-  module _ (h : length s ≤ end) where
-    ended : numbersOf (piecesAfter space s from) ≡ some (take k ns)
-    unfolding numbersOf
-    ended = so .rest ∙ rw (none-after space s end h) (ap some (append-nil (take k ns)))
+  ended : length s ≤ end → numbersOf (piecesAfter space s from) ≡ some (take k ns)
+  unfolding numbersOf
+  ended h = so .rest ∙ rw (none-after space s end h) (ap some (append-nil (take k ns)))
 
-    pub too-few : k < count → none ≡ exactly count (numbersOf (piecesAfter space s from))
-    too-few l = rw ended (simp (ne-eqb (length (take k ns)) count (λ e. omega (arith, e, taken))))
+  pub too-few : end ≡ length s → k < count → none ≡ exactly count (numbersOf (piecesAfter space s from))
+  too-few h l = rw (ended (omega arith)) (simp (ne-eqb (length (take k ns)) count (λ e. omega (arith, e, taken))))
 
-    pub all-read : count ≤ k → some (take count ns) ≡ exactly count (numbersOf (piecesAfter space s from))
-    all-read l =
-        let e : count ≡ k = omega (arith, so .few) in
-        rw (e, ended) (simp (eq-eqb (length (take k ns)) k taken))
+  pub all-read : length s ≤ end → count ≤ k → some (take count ns) ≡ exactly count (numbersOf (piecesAfter space s from))
+  all-read h l =
+      let e : count ≡ k = omega (arith, so .few) in
+      rw (e, ended h) (simp (eq-eqb (length (take k ns)) k taken))
 
   -- the line goes on
   pub one-more : end < length s → count ≤ k → none ≡ exactly count (numbersOf (piecesAfter space s from))
@@ -72,22 +73,26 @@ module _ (s : List ℕ) (from count : ℕ) (ns : List ℕ) (end k : ℕ) (so : G
       rw (so .rest, some-after space s end l, front-piece space t e (front-ends space t))
       (too-many (take k ns) (numberOf (take e t)) (numbersOf (piecesAfter space t e)) count (omega (arith, so .few, taken)))
 
+  pub goes-on : (end ≡ length s → ⊥) → end + 1 ≤ length s
+  goes-on n = omega (arith, lt-of-le-ne (so .inside) n)
+
   -- the next word, from end + 1 to e
-  module _ (l : end < length s) (e : ℕ) (h : PieceEnds space s (end + 1) e) where
+  module _ (n : end ≡ length s → ⊥) {e : ℕ} (h : PieceEnds space s (end + 1) e) {x : Parsed} (w : x ≡ numberOf (take (e - (end + 1)) (drop (end + 1) s))) where
     next : piecesAfter space s end ≡ take (e - (end + 1)) (drop (end + 1) s) ∷ piecesAfter space s e
-    next = some-after space s end l ∙ next-piece space s (end + 1) e h
+    next = some-after space s end (lt-of-le-ne (so .inside) n) ∙ next-piece space s (end + 1) e h
 
-    pub no-number : Parsed.NotNumber ≡ numberOf (take (e - (end + 1)) (drop (end + 1) s)) → none ≡ exactly count (numbersOf (piecesAfter space s from))
+    pub no-number : x ≡ Parsed.NotNumber → none ≡ exactly count (numbersOf (piecesAfter space s from))
     unfolding numbersOf
-    no-number w = rw (so .rest, next, ← w)
+    no-number y = rw (so .rest, next, ← w, y)
 
-    pub number-on : (n : ℕ) → Parsed.Value n ≡ numberOf (take (e - (end + 1)) (drop (end + 1) s)) → k < count → Gathered s from count (set ns k n) e (k + 1)
+    pub number-on : {v : ℕ} → x ≡ Parsed.Value v → k < count → Gathered s from count (set ns k v) e (k + 1)
     unfolding numbersOf
-    number-on n w m =
-        let g : take (k + 1) (set ns k n) ≡ take k ns ++ (n ∷ []) = rw (add-one k) (take-suc-set ns k n (omega (arith, so .long))) in
+    number-on {v} y m =
+        let g : take (k + 1) (set ns k v) ≡ take k ns ++ (v ∷ []) = rw (add-one k) (take-suc-set ns k v (omega (arith, so .most, so .long))) in
         record {
           inside = h .inside;
           few = omega arith;
-          long = length-set ns k n ∙ so .long;
-          rest = so .rest ∙ rw (next, ← w, g) (after-one (take k ns) n (numbersOf (piecesAfter space s e)));
+          most = so .most;
+          long = length-set ns k v ∙ so .long;
+          rest = so .rest ∙ rw (next, ← w, y, g) (after-one (take k ns) v (numbersOf (piecesAfter space s e)));
         }

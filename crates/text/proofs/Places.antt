@@ -1,15 +1,13 @@
 -- The place of a word among words, found one word after the other, and the form at that place. Assumes nothing.
 use mathlib.Core.Path.{_≡_, refl, sym, ap, _∙_}
-use mathlib.Core.Bool.{Bool, true, false, cond}
+use mathlib.Core.Bool.{Bool, true, false}
 use mathlib.Core.List.{List, [], _∷_, map}
 use mathlib.Core.Option.{none, some}
 use Prim.Native.Nat.{ℕ, zero, suc, _+_, _-_, _≤_, _<_}
 use native.Mathlib.Nat.{add-zero}
 use native.Mathlib.Numerals.{add-one}
 use native.Mathlib.Omega.{arith}
-use borrow.Author.Tests.{leb-true}
 use lib.Arith.{lt-of-le-ne}
-use lib.Dec.{leb}
 use lib.ListN.{length, getD, take, drop}
 use lib.Seq.{drop-drop, getD-drop}
 use Rattle.text.specs.declared.pieces.Found.{Found}
@@ -25,28 +23,27 @@ pub record Searched (words word : List ℕ) (at place : ℕ) : Type 0 where
   pub fewer : place ≤ at
   pub rest : placeFrom place (pieces space (drop at words)) word ≡ placeFrom 0 (pieces space words) word
 
-module _ (words word : List ℕ) (at place end : ℕ) (so : Searched words word at place) (h : PieceEnds space words at end) where
-  pub found : true ≡ sameText word (take (end - at) (drop at words)) → Found.At place ≡ placeFrom 0 (pieces space words) word
+module _ {words word : List ℕ} {at place end : ℕ} (so : Searched words word at place) (h : PieceEnds space words at end) {same : Bool} (e : same ≡ sameText word (take (end - at) (drop at words))) where
+  pub found : same ≡ true → Found.At place ≡ placeFrom 0 (pieces space words) word
   unfolding placeFrom
-  found e = sym (rw (next-piece space words at end h) (simp (sym e))) ∙ so .rest
+  found y = sym (rw (next-piece space words at end h) (simp (sym e ∙ y))) ∙ so .rest
 
-  module _ (e : false ≡ sameText word (take (end - at) (drop at words))) where
-    other : placeFrom place (pieces space (drop at words)) word ≡ placeFrom (suc place) (piecesAfter space words end) word
-    unfolding placeFrom
-    other = rw (next-piece space words at end h) (simp (sym e))
+  other : same ≡ false → placeFrom place (pieces space (drop at words)) word ≡ placeFrom (suc place) (piecesAfter space words end) word
+  unfolding placeFrom
+  other n = rw (next-piece space words at end h) (simp (sym e ∙ n))
 
-    pub nowhere : end ≡ length words → Found.Nowhere ≡ placeFrom 0 (pieces space words) word
-    unfolding placeFrom
-    nowhere q = sym (other ∙ rw (none-after space words end (omega arith))) ∙ so .rest
+  pub nowhere : same ≡ false → end ≡ length words → Found.Nowhere ≡ placeFrom 0 (pieces space words) word
+  unfolding placeFrom
+  nowhere n q = sym (other n ∙ rw (none-after space words end (omega arith))) ∙ so .rest
 
-    pub onward : (end ≡ length words → ⊥) → Searched words word (end + 1) (place + 1)
-    onward q =
-        let l : end < length words = lt-of-le-ne (h .inside) q in
-        record {
-          inside = omega arith;
-          fewer = omega (arith, so .fewer, h .first);
-          rest = rw (add-one place, ← some-after space words end l) (sym other ∙ so .rest);
-        }
+  pub onward : same ≡ false → (end ≡ length words → ⊥) → Searched words word (end + 1) (place + 1)
+  onward n q =
+      let l : end < length words = lt-of-le-ne (h .inside) q in
+      record {
+        inside = omega arith;
+        fewer = omega (arith, so .fewer, h .first);
+        rest = rw (add-one place, ← some-after space words end l) (sym (other n) ∙ so .rest);
+      }
 
 -- ---- a place found is one of the words'
 within-step : (k i : ℕ) (v : List ℕ) (vs : List (List ℕ)) (word : List ℕ) (t : Bool) → sameText word v ≡ t → (Found.At i ≡ placeFrom (suc k) vs word → i < suc k + length vs) → Found.At i ≡ placeFrom k (v ∷ vs) word → i < k + suc (length vs)
@@ -93,21 +90,17 @@ unfolding formNamed
 named-nowhere k [] word h = refl
 named-nowhere k (f ∷ fs) word h = nowhere-step k f fs word (sameText word (f .name)) refl (named-nowhere (suc k) fs word) h
 
--- ---- no form takes more than the most numbers, by a test of the whole table
-takeAtMost : List Form → Bool
-takeAtMost [] = true
-takeAtMost (f ∷ fs) = cond (leb (f .count) mostNumbers) (takeAtMost fs) false
+-- ---- no form takes more than the most numbers
+FewNumbers : List Form → Type 0
+FewNumbers [] = Unit {0}
+FewNumbers (f ∷ fs) = (f .count ≤ mostNumbers) × FewNumbers fs
 
-at-most-step : (f : Form) (fs : List Form) (t : Bool) → leb (f .count) mostNumbers ≡ t → cond t (takeAtMost fs) false ≡ true → (f .count ≤ mostNumbers) × (takeAtMost fs ≡ true)
-at-most-step f fs true e h = (leb-true (f .count) mostNumbers e, h)
-at-most-step f fs false e h = let z : _≡_ {A = ℕ} 0 1 = cc in absurd (omega arith)
-
-at-most-by : (fs : List Form) (i : ℕ) → takeAtMost fs ≡ true → getD fs i noForm .count ≤ mostNumbers
-unfolding takeAtMost
-at-most-by [] i t = omega arith
-at-most-by (f ∷ fs) zero t = at-most-step f fs (leb (f .count) mostNumbers) refl t .0
-at-most-by (f ∷ fs) (suc i) t = at-most-by fs i (at-most-step f fs (leb (f .count) mostNumbers) refl t .1)
+few-at : (fs : List Form) (i : ℕ) → FewNumbers fs → getD fs i noForm .count ≤ mostNumbers
+unfolding FewNumbers
+few-at [] i h = omega arith
+few-at (f ∷ fs) zero h = h .0
+few-at (f ∷ fs) (suc i) h = few-at fs i (h .1)
 
 pub takes-at-most : (i : ℕ) → formAt i .count ≤ mostNumbers
-unfolding takeAtMost
-takes-at-most i = at-most-by forms i refl
+unfolding FewNumbers
+takes-at-most i = few-at forms i (omega arith)

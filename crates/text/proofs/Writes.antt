@@ -1,13 +1,21 @@
 -- Texts written into a buffer, one after the other. Assumes nothing.
 use mathlib.Core.Path.{_≡_, refl, sym, ap, _∙_}
 use mathlib.Core.List.{List, [], _∷_, _++_, append-assoc, append-nil}
-use Prim.Native.Nat.{ℕ, _+_, _≤_, _<_}
+use Prim.Native.Nat.{ℕ, _+_, _*_, _≤_, _<_}
 use native.Mathlib.Nat.{add-zero}
 use native.Mathlib.Numerals.{add-one}
 use native.Mathlib.Omega.{arith}
 use lib.ListN.{length, take, drop, set, length-append}
 use lib.Seq.{take-suc-set, drop-set-lt, drop-drop}
-use Rattle.text.specs.Lines.{Wrote, WroteWithin}
+use lib.IntN.{ℤ}
+use borrow.Author.Tests.{eq-eqb, ne-eqb}
+use mir.Syntax.{w64}
+use mir.Val.{SFits, toZ, ofZ}
+use mir.ValLaws.{toZ-ofZ}
+use Rattle.model.specs.declared.Reply.{Reply}
+use Rattle.text.specs.Bytes.{bytes, space}
+use Rattle.text.specs.Numbers.{digits, signed}
+use Rattle.text.specs.Lines.{Wrote, WroteWithin, spacedNumber, numberRoom, numbersText, wordsText, wordsRoom}
 
 pub wrote-none : (d : List ℕ) (at : ℕ) → Wrote d d at at []
 wrote-none d at = record { reached = sym (add-zero at); front = sym (append-nil (take at d)); rest = refl }
@@ -45,10 +53,34 @@ within-then v w = record { wrote = wrote-then (v .wrote) (w .wrote); within = om
 pub within-same : {room : ℕ} {d e : List ℕ} {at r : ℕ} {xs ys : List ℕ} → WroteWithin room d e at r xs → xs ≡ ys → WroteWithin room d e at r ys
 within-same w h = record { wrote = wrote-same (w .wrote) refl h; within = w .within }
 
--- the room of the first of two texts
-pub room-first : (at l m n : ℕ) → at + (m + n) ≤ l → at + m ≤ l
-room-first at l m n h = omega arith
-
 -- the room that is left after a text
 pub room-after : {m : ℕ} {d e : List ℕ} {at r : ℕ} {xs : List ℕ} (n : ℕ) → WroteWithin m d e at r xs → length e ≡ length d → at + (m + n) ≤ length d → r + n ≤ length e
 room-after n w k h = omega (arith, w .within)
+
+-- ---- a number after a space: an integer of 64 bits that is passed on is read back from its bits
+pub spaced-within : {d e f : List ℕ} {at p r : ℕ} {z : ℤ} → SFits w64 z → Wrote d e at p (space ∷ []) → WroteWithin 20 e f p r (signed (toZ w64 (ofZ w64 z)))
+    → WroteWithin numberRoom d f at r (spacedNumber z)
+spaced-within {z = z} h v w = within-then (within-room 1 v (omega arith)) (rw (toZ-ofZ w64 z h) at w)
+
+-- ---- the words of a line, and their room: `ok` and the numbers
+module _ (t : Reply) (h : t .refused ≡ 0) where
+  pub ok-within : {d e f : List ℕ} {at p r : ℕ} → Wrote d e at p (bytes "ok") → WroteWithin (numberRoom * t .count) e f p r (numbersText (take (t .count) (t .numbers)))
+      → WroteWithin (wordsRoom t) d f at r (wordsText t)
+  ok-within v w = rw (eq-eqb (t .refused) 0 h) (within-then (within-room 2 v (omega arith)) w)
+
+  pub ok-first : (at n : ℕ) → at + wordsRoom t ≤ n → at + 2 ≤ n
+  ok-first at n l = let k : at + (2 + numberRoom * t .count) ≤ n = rw (eq-eqb (t .refused) 0 h) at l in omega arith
+
+  pub ok-after : {d e : List ℕ} {at p : ℕ} → Wrote d e at p (bytes "ok") → length e ≡ length d → at + wordsRoom t ≤ length d → p + numberRoom * t .count ≤ length e
+  ok-after v k l = room-after (numberRoom * t .count) (within-room 2 v (omega arith)) k (rw (eq-eqb (t .refused) 0 h) at l)
+
+-- `refused` and the number
+module _ (t : Reply) (h : t .refused ≡ 0 → ⊥) where
+  pub refused-within : {d e f : List ℕ} {at p r : ℕ} → Wrote d e at p (bytes "refused ") → Wrote e f p r (digits (t .refused)) → WroteWithin (wordsRoom t) d f at r (wordsText t)
+  refused-within v w = rw (ne-eqb (t .refused) 0 h) (within-then (within-room 8 v (omega arith)) (within-room (length (digits (t .refused))) w (omega arith)))
+
+  pub refused-first : (at n : ℕ) → at + wordsRoom t ≤ n → at + 8 ≤ n
+  refused-first at n l = let k : at + (8 + length (digits (t .refused))) ≤ n = rw (ne-eqb (t .refused) 0 h) at l in omega arith
+
+  pub refused-after : {d e : List ℕ} {at p : ℕ} → Wrote d e at p (bytes "refused ") → length e ≡ length d → at + wordsRoom t ≤ length d → p + length (digits (t .refused)) ≤ length e
+  refused-after v k l = room-after (length (digits (t .refused))) (within-room 8 v (omega arith)) k (rw (ne-eqb (t .refused) 0 h) at l)

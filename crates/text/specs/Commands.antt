@@ -46,6 +46,10 @@ forms =
 abbrev pub mostNumbers : ℕ
 mostNumbers = 6
 
+-- no line that can be read is shorter
+abbrev pub shortestLine : ℕ
+shortestLine = 5
+
 -- the form that has a name, if one has it
 unfoldable pub formNamed : List Form → List ℕ → Option Form
 formNamed [] word = none

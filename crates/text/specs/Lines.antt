@@ -6,7 +6,8 @@ use Prim.Native.Nat.{ℕ, _+_, _*_, _≤_}
 use lib.Dec.{eqb}
 use lib.IntN.{ℤ}
 use lib.ListN.{length, take, drop}
-use Rattle.model.specs.declared.Told.{Told}
+use Rattle.model.specs.declared.Reply.{Reply}
+use Rattle.model.specs.Calls.{answerNumbers}
 use Rattle.text.specs.Bytes.{bytes, space, lineFeed}
 use Rattle.text.specs.Numbers.{digits, signed}
 
@@ -20,20 +21,28 @@ numbersText [] = []
 numbersText (z ∷ zs) = spacedNumber z ++ numbersText zs
 
 -- a line without its line feed: `ok` with the answer's numbers, or `refused` and the number, single spaces between
-abbrev pub wordsText : Told → List ℕ
+abbrev pub wordsText : Reply → List ℕ
 wordsText t = cond (eqb (t .refused) 0) (bytes "ok" ++ numbersText (take (t .count) (t .numbers))) (bytes "refused " ++ digits (t .refused))
 
 -- the line
-abbrev pub lineText : Told → List ℕ
+abbrev pub lineText : Reply → List ℕ
 lineText t = wordsText t ++ (lineFeed ∷ [])
 
--- how many bytes a line takes at most without its line feed, where a space and a number of 64 bits take 21
-abbrev pub wordsRoom : Told → ℕ
-wordsRoom t = cond (eqb (t .refused) 0) (2 + 21 * t .count) (8 + length (digits (t .refused)))
+-- a space and a number of 64 bits take at most this many bytes
+abbrev pub numberRoom : ℕ
+numberRoom = 21
+
+-- how many bytes a line takes at most without its line feed
+abbrev pub wordsRoom : Reply → ℕ
+wordsRoom t = cond (eqb (t .refused) 0) (2 + numberRoom * t .count) (8 + length (digits (t .refused)))
 
 -- how many bytes the line takes at most
-abbrev pub lineRoom : Told → ℕ
+abbrev pub lineRoom : Reply → ℕ
 lineRoom t = wordsRoom t + 1
+
+-- no line takes more: `ok`, the numbers and the line feed
+abbrev pub longestLine : ℕ
+longestLine = 2 + numberRoom * answerNumbers + 1
 
 -- a buffer was `before` and is `after`: from `at` to `end` it holds the text, and the rest is as it was
 pub record Wrote (before after : List ℕ) (at end : ℕ) (text : List ℕ) : Type 0 where

@@ -9,7 +9,7 @@ ghost use Prim.Native.Nat.{_≤_, _<_};
 ghost use lib.ListN.{length, take};
 ghost use Rattle.text.specs.Bytes.{space};
 ghost use Rattle.text.specs.Pieces.{piecesAfter};
-ghost use Rattle.text.specs.Numbers.{decimalValue, numberOf, numbersOf};
+ghost use Rattle.text.specs.Numbers.{decimalValue, hasLeadingZero, numberOf, numbersOf};
 ghost use Rattle.text.specs.Commands.{forms, mostNumbers, commandOf};
 ghost use Rattle.text.specs.ReadingSteps.{exactly, numbersIf, formAt, commandFrom};
 
@@ -46,6 +46,9 @@ const COUNTS: [usize; 12] = [1, 5, 6, 6, 3, 2, 0, 1, 0, 3, 1, 2];
 // No call takes more numbers.
 const MOST_NUMBERS: usize = 6;
 
+// No line that can be read is shorter.
+pub const SHORTEST_LINE: usize = 5;
+
 // The value of at most ten digits.
 fn decimal_value(word: &[u8]) -> Decimal
     requires { ⌜ length (now word) ≤ 10 ⌝ }
@@ -67,6 +70,16 @@ fn decimal_value(word: &[u8]) -> Decimal
     Decimal::Value(value)
 }
 
+// Whether a word has more than one byte, of which the first is 0.
+fn has_leading_zero(word: &[u8]) -> bool
+    ensures { λ r. ⌜ r ≡ hasLeadingZero (now (word .entry)) ⌝ }
+{
+    if word.len() <= 1 {
+        return false;
+    }
+    word[0] == b'0'
+}
+
 // A word as a number.
 fn read_number(word: &[u8]) -> Parsed
     ensures { λ r. ⌜ r ≡ numberOf (now (word .entry)) ⌝ }
@@ -77,10 +90,8 @@ fn read_number(word: &[u8]) -> Parsed
     if 10 < word.len() {
         return Parsed::NotNumber;
     }
-    if 1 < word.len() {
-        if word[0] == b'0' {
-            return Parsed::NotNumber;
-        }
+    if has_leading_zero(word) {
+        return Parsed::NotNumber;
     }
     let Decimal::Value(value) = decimal_value(word) else {
         return Parsed::NotNumber;

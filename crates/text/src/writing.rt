@@ -1,11 +1,19 @@
 // Writing: an answer as a line.
-use model::Told;
+use model::ANSWER_NUMBERS;
+use model::Reply;
 ghost use mathlib.Core.Path.{_≡_};
 ghost use Prim.Native.Nat.{_+_, _*_, _≤_};
 ghost use lib.IntN.{natAbs};
 ghost use lib.ListN.{length, take};
+ghost use Rattle.model.specs.Calls.{answerNumbers};
 ghost use Rattle.text.specs.Numbers.{digits, isNegative, signed};
-ghost use Rattle.text.specs.Lines.{Wrote, WroteWithin, spacedNumber, numbersText, wordsText, wordsRoom, lineText, lineRoom};
+ghost use Rattle.text.specs.Lines.{Wrote, WroteWithin, spacedNumber, numberRoom, numbersText, wordsText, wordsRoom, lineText, lineRoom};
+
+// A space and a number of 64 bits take at most this many bytes.
+const NUMBER_ROOM: usize = 21;
+
+// No line is longer: `ok`, the numbers and the line feed.
+pub const LONGEST_LINE: usize = 2 + NUMBER_ROOM * ANSWER_NUMBERS + 1;
 
 // Writes the bytes of a text from `at` on.
 fn write_text(out: &mut [u8], at: usize, text: &[u8]) -> usize
@@ -65,19 +73,19 @@ fn write_integer(out: &mut [u8], at: usize, x: i64) -> usize
     write_digits(out, at, size)
 }
 
-// Writes a space and a number from `at` on: at most 21 bytes.
+// Writes a space and a number from `at` on.
 fn write_number(out: &mut [u8], at: usize, number: i64) -> usize
-    requires { ⌜ at + 21 ≤ length (now out) ⌝ }
-    ensures { λ r. ⌜ WroteWithin 21 (now (out .entry)) (now (out .exit)) at r (spacedNumber number) ⌝ }
+    requires { ⌜ at + numberRoom ≤ length (now out) ⌝ }
+    ensures { λ r. ⌜ WroteWithin numberRoom (now (out .entry)) (now (out .exit)) at r (spacedNumber number) ⌝ }
 {
     let p = write_text(out, at, b" ");
     write_integer(out, p, number)
 }
 
 // Writes the first `count` numbers from `at` on, each after a space.
-fn write_numbers(out: &mut [u8], at: usize, count: usize, numbers: [i64; 3]) -> usize
-    requires { ⌜ (count ≤ 3) × (at + 21 * count ≤ length (now out)) ⌝ }
-    ensures { λ r. ⌜ WroteWithin (21 * count) (now (out .entry)) (now (out .exit)) at r (numbersText (take count numbers)) ⌝ }
+fn write_numbers(out: &mut [u8], at: usize, count: usize, numbers: [i64; ANSWER_NUMBERS]) -> usize
+    requires { ⌜ (count ≤ answerNumbers) × (at + numberRoom * count ≤ length (now out)) ⌝ }
+    ensures { λ r. ⌜ WroteWithin (numberRoom * count) (now (out .entry)) (now (out .exit)) at r (numbersText (take count numbers)) ⌝ }
 {
     let mut p = at;
     let mut k: usize = 0;
@@ -89,24 +97,24 @@ fn write_numbers(out: &mut [u8], at: usize, count: usize, numbers: [i64; 3]) -> 
 }
 
 // Writes a line without its line feed from `at` on.
-fn write_words(out: &mut [u8], at: usize, told: Told) -> usize
-    requires { ⌜ (told .count ≤ 3) × (at + wordsRoom told ≤ length (now out)) ⌝ }
-    ensures { λ r. ⌜ WroteWithin (wordsRoom told) (now (out .entry)) (now (out .exit)) at r (wordsText told) ⌝ }
+fn write_words(out: &mut [u8], at: usize, reply: Reply) -> usize
+    requires { ⌜ (reply .count ≤ answerNumbers) × (at + wordsRoom reply ≤ length (now out)) ⌝ }
+    ensures { λ r. ⌜ WroteWithin (wordsRoom reply) (now (out .entry)) (now (out .exit)) at r (wordsText reply) ⌝ }
 {
-    if told.refused == 0 {
+    if reply.refused == 0 {
         let p = write_text(out, at, b"ok");
-        let numbers = told.numbers;
-        return write_numbers(out, p, told.count, numbers);
+        let numbers = reply.numbers;
+        return write_numbers(out, p, reply.count, numbers);
     }
     let p = write_text(out, at, b"refused ");
-    write_digits(out, p, told.refused as u64)
+    write_digits(out, p, reply.refused as u64)
 }
 
 // Writes a line from `at` on, and gives the place after it.
-pub fn write_line(out: &mut [u8], at: usize, told: Told) -> usize
-    requires { ⌜ (told .count ≤ 3) × (at + lineRoom told ≤ length (now out)) ⌝ }
-    ensures { λ r. ⌜ WroteWithin (lineRoom told) (now (out .entry)) (now (out .exit)) at r (lineText told) ⌝ }
+pub fn write_line(out: &mut [u8], at: usize, reply: Reply) -> usize
+    requires { ⌜ (reply .count ≤ answerNumbers) × (at + lineRoom reply ≤ length (now out)) ⌝ }
+    ensures { λ r. ⌜ WroteWithin (lineRoom reply) (now (out .entry)) (now (out .exit)) at r (lineText reply) ⌝ }
 {
-    let p = write_words(out, at, told);
+    let p = write_words(out, at, reply);
     write_text(out, p, b"\n")
 }

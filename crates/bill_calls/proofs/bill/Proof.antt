@@ -1,32 +1,23 @@
--- `bill` is refused, or answers and leaves what an accepted call does.
-use mathlib.Core.Path.{_≡_, sym, _∙_}
-use Rattle.layout.specs.declared.Checked.the-variants.{WellFormed}
-use Rattle.layout.specs.Present.{checkedOf}
-use Rattle.layout.proofs.Present.{present}
-use Rattle.layout.proofs.Machine.{check-sound, searched}
-use Rattle.bill_calls.proofs.CheckedCalls.{malformed-meets, refused-meets, call-accepted, accepted-meets}
+-- `bill` is turned down by its request or by its row, or its row is added.
+use Rattle.bill_calls.proofs.Bills.{bill-of, bill-request-refused, bill-row-refused, new-row-of, bill-accepted}
 use borrow.Author.Needs.{needs}
 use Rattle.bill_calls.proofs.bill.Statement.{statement}
 use Rattle.bill_calls.proofs.bill.Tie as tie
 
--- the check found the ledger well formed
-checked : (c : tie.After-known-told) → WellFormed (c .before .rows .given .0 .0) (c .before .rows .given .0 .1 .0) ≡ checkedOf (c .before .before .before .before .before .before .before .args .ledger .now)
-checked c = sym (c .before .rows .given .1) ∙ c .before .before .before .check .ensures
+new-place-requires : tie.Need-new-place-requires
+new-place-requires c κs = search bill-of
+
+add-row-requires : tie.Need-add-row-requires
+add-row-requires c κs = search new-row-of
 
 returns : tie.Need-returns
-returns c = malformed-meets _ _ (sym (c .enum-told .given .1) ∙ c .before .before .check .ensures)
-
-refused-bill-requires : tie.Need-refused-bill-requires
-refused-bill-requires c κs = searched present _ (check-sound present _ _ _ (checked (c .before)))
+returns c = search bill-request-refused
 
 returns-2 : tie.Need-returns-2
-returns-2 c = refused-meets _ _ _ _ _ (checked (c .before .before .before)) (c .before .refused-bill .ensures) (c .if1 .taken)
-
-accept-bill-requires : tie.Need-accept-bill-requires
-accept-bill-requires c κs = call-accepted _ _ _ _ _ (checked (c .before .before .before .before)) (c .before .before .refused-bill .ensures) (c .before .if1 .left)
+returns-2 c = search bill-row-refused
 
 returns-3 : tie.Need-returns-3
-returns-3 c = accepted-meets _ _ _ _ _ (checked (c .before .before .before .before .before .before .before)) (c .before .before .before .before .before .refused-bill .ensures) (c .before .before .before .before .if1 .left) _ _ (c .before .before .accept-bill .ensures)
+returns-3 c = search bill-accepted
 
 pub bill-spec : {M : Type 1} → statement M
 bill-spec =
@@ -35,13 +26,13 @@ bill-spec =
     (λ c κs. search needs)
     (λ c. search needs)
     (λ c. search needs)
+    new-place-requires
+    (λ c. search needs)
+    (λ c. search needs)
+    add-row-requires
     (λ c. search needs)
     returns
     (λ c. search needs)
-    refused-bill-requires
-    (λ c. search needs)
     returns-2
-    (λ c. search needs)
-    accept-bill-requires
     (λ c. search needs)
     returns-3)

@@ -1,32 +1,23 @@
--- `rebill` is refused, or answers and leaves what an accepted call does.
-use mathlib.Core.Path.{_≡_, sym, _∙_}
-use Rattle.layout.specs.declared.Checked.the-variants.{WellFormed}
-use Rattle.layout.specs.Present.{checkedOf}
-use Rattle.layout.proofs.Present.{present}
-use Rattle.layout.proofs.Machine.{check-sound, searched}
-use Rattle.bill_calls.proofs.CheckedCalls.{malformed-meets, refused-meets, call-accepted, accepted-meets}
+-- `rebill` is turned down by its request or by its row, or its row is put in place of the old one.
+use Rattle.bill_calls.proofs.Bills.{bill-of, rebill-request-refused, rebill-row-refused, row-again-of, rebill-accepted}
 use borrow.Author.Needs.{needs}
 use Rattle.bill_calls.proofs.rebill.Statement.{statement}
 use Rattle.bill_calls.proofs.rebill.Tie as tie
 
--- the check found the ledger well formed
-checked : (c : tie.After-known-told) → WellFormed (c .before .rows .given .0 .0) (c .before .rows .given .0 .1 .0) ≡ checkedOf (c .before .before .before .before .before .before .before .args .ledger .now)
-checked c = sym (c .before .rows .given .1) ∙ c .before .before .before .check .ensures
+place-again-requires : tie.Need-place-again-requires
+place-again-requires c κs = search bill-of
+
+replace-row-requires : tie.Need-replace-row-requires
+replace-row-requires c κs = search row-again-of
 
 returns : tie.Need-returns
-returns c = malformed-meets _ _ (sym (c .enum-told .given .1) ∙ c .before .before .check .ensures)
-
-refused-rebill-requires : tie.Need-refused-rebill-requires
-refused-rebill-requires c κs = searched present _ (check-sound present _ _ _ (checked (c .before)))
+returns c = search rebill-request-refused
 
 returns-2 : tie.Need-returns-2
-returns-2 c = refused-meets _ _ _ _ _ (checked (c .before .before .before)) (c .before .refused-rebill .ensures) (c .if1 .taken)
-
-accept-rebill-requires : tie.Need-accept-rebill-requires
-accept-rebill-requires c κs = call-accepted _ _ _ _ _ (checked (c .before .before .before .before)) (c .before .before .refused-rebill .ensures) (c .before .if1 .left)
+returns-2 c = search rebill-row-refused
 
 returns-3 : tie.Need-returns-3
-returns-3 c = accepted-meets _ _ _ _ _ (checked (c .before .before .before .before .before .before .before)) (c .before .before .before .before .before .refused-rebill .ensures) (c .before .before .before .before .if1 .left) _ _ (c .before .before .accept-rebill .ensures)
+returns-3 c = search rebill-accepted
 
 pub rebill-spec : {M : Type 1} → statement M
 rebill-spec =
@@ -35,13 +26,13 @@ rebill-spec =
     (λ c κs. search needs)
     (λ c. search needs)
     (λ c. search needs)
+    place-again-requires
+    (λ c. search needs)
+    (λ c. search needs)
+    replace-row-requires
     (λ c. search needs)
     returns
     (λ c. search needs)
-    refused-rebill-requires
-    (λ c. search needs)
     returns-2
-    (λ c. search needs)
-    accept-rebill-requires
     (λ c. search needs)
     returns-3)

@@ -6,7 +6,7 @@ use native.Mathlib.Omega.{arith}
 use borrow.Rule.Slice.PartMut.{midOf}
 use Rattle.records.specs.Edits.{insertAt}
 use Rattle.records.proofs.Edits.{part-lent}
-use Rattle.layout.specs.PackedLedger.{rowKind}
+use Rattle.layout.specs.PresentLayout.{rowRecord}
 use Rattle.layout.specs.Offsets.{firstRow, rowLength}
 use Rattle.records.specs.OneSlot.{recordBytes}
 use borrow.Author.Needs.{needs}
@@ -20,7 +20,7 @@ returns c =
     let start = at-pack .before .before .before in
     let a = start .args in
     let end : ℕ = firstRow + (a .rows + 1) * rowLength in
-    part-lent firstRow end (insertAt (a .i * rowLength) (recordBytes rowKind (a .row))) (a .b .now) (at-insert .insert .last .0) (omega arith)
+    part-lent firstRow end (insertAt (a .i * rowLength) (recordBytes rowRecord (a .row))) (a .b .now) (at-insert .insert .last .0) (omega arith)
     (at-insert .insert .ensures ∙ ap (λ (x : List ℕ). insertAt (a .i * rowLength) x (midOf firstRow (end - firstRow) (a .b .now))) (at-pack .pack-row .ensures))
 
 pub insert-row-spec : {M : Type 1} → statement M

@@ -7,7 +7,7 @@ use lib.ListN.{take, drop, length-drop}
 use lib.Seq.{length-take-le}
 use Rattle.model.specs.declared.Row.{Row}
 use Rattle.model.specs.Ledger.{withAmount}
-use Rattle.layout.specs.PackedLedger.{rowKind}
+use Rattle.layout.specs.PresentLayout.{rowRecord}
 use Rattle.layout.specs.Offsets.{firstRow, rowLength}
 use Rattle.records.specs.OneSlot.{recordIn, recordBytes}
 use Rattle.edits.proofs.Parts.{part-written}
@@ -31,9 +31,9 @@ returns c =
     let b = a .b .now in
     let at = firstRow + a .i * rowLength in
     let lent : at + rowLength - at ≡ rowLength = omega arith in
-    let row : List ℕ → Row = λ s. withAmount (recordIn rowKind s) (a .amount) in
-    part-written at rowLength (recordBytes rowKind (row (take rowLength (drop at b)))) b (at-put .put-amount .last .0) (length-row (row (take rowLength (drop at b))))
-    (at-put .put-amount .ensures ∙ ap (λ (n : ℕ). recordBytes rowKind (row (take n (drop at b)))) lent)
+    let row : List ℕ → Row = λ s. withAmount (recordIn rowRecord s) (a .amount) in
+    part-written at rowLength (recordBytes rowRecord (row (take rowLength (drop at b)))) b (at-put .put-amount .last .0) (length-row (row (take rowLength (drop at b))))
+    (at-put .put-amount .ensures ∙ ap (λ (n : ℕ). recordBytes rowRecord (row (take n (drop at b)))) lent)
 
 pub replace-amount-spec : {M : Type 1} → statement M
 replace-amount-spec =

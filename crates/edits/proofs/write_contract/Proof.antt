@@ -1,6 +1,6 @@
 -- `write_contract` packs the contract into the slot of its number.
 use Prim.Native.Nat.{_+_, _*_}
-use Rattle.layout.specs.PackedLedger.{contractKind}
+use Rattle.layout.specs.PresentLayout.{contractRecord}
 use Rattle.layout.specs.Offsets.{firstContract, contractLength}
 use Rattle.records.specs.OneSlot.{recordBytes}
 use Rattle.edits.proofs.Parts.{part-written}
@@ -13,7 +13,7 @@ returns : tie.Need-returns
 returns c =
     let at-pack = c .before .before in
     let a = at-pack .before .before .before .args in
-    part-written (firstContract + a .c * contractLength) contractLength (recordBytes contractKind (a .contract)) (a .b .now) (at-pack .pack-contract .last .0) (length-contract (a .contract))
+    part-written (firstContract + a .c * contractLength) contractLength (recordBytes contractRecord (a .contract)) (a .b .now) (at-pack .pack-contract .last .0) (length-contract (a .contract))
     (at-pack .pack-contract .ensures)
 
 pub write-contract-spec : {M : Type 1} → statement M

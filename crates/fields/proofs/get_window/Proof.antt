@@ -1,7 +1,6 @@
 -- `get_window` meets its contract: the field is extracted from the number that the eight bytes write.
 use Prim.Native.Nat.{_-_, _*_}
 use native.Mathlib.Omega.{arith}
-use lib.ListN.{length}
 use Rattle.fields.proofs.Windows.{get-law}
 use borrow.Author.Needs.{needs}
 use Rattle.fields.proofs.get_window.Statement.{statement}

@@ -1,7 +1,6 @@
 -- `put_window` meets its contract: v is inserted in the number that the eight bytes write, and the bytes of that are stored.
 use Prim.Native.Nat.{_-_, _*_}
 use native.Mathlib.Omega.{arith}
-use lib.ListN.{length}
 use Rattle.fields.proofs.Windows.{put-law}
 use borrow.Author.Needs.{needs}
 use Rattle.fields.proofs.put_window.Statement.{statement}

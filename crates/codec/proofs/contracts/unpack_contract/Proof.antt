@@ -6,11 +6,8 @@ use borrow.Author.Needs.{needs}
 use Rattle.codec.proofs.contracts.unpack_contract.Statement.{statement}
 use Rattle.codec.proofs.contracts.unpack_contract.Tie as tie
 
-returns : tie.Need-returns
-unfolding recordIn slotNumbers unpack fields
-returns c = cc
-
 pub unpack-contract-spec : {M : Type 1} → statement M
+unfolding recordIn slotNumbers unpack fields
 unpack-contract-spec =
     tie.close
     (tie.spec
@@ -23,4 +20,4 @@ unpack-contract-spec =
     (λ c κs. search needs)
     (λ c κs. search needs)
     (λ c κs. search needs)
-    returns)
+    (λ c. cc))

@@ -6,9 +6,6 @@ use borrow.Author.Needs.{needs}
 use Rattle.codec.proofs.header.claims.Statement.{statement}
 use Rattle.codec.proofs.header.claims.Tie as tie
 
-returns : tie.Need-returns
-unfolding claimsIn unpack fields
-returns c = c .get .ensures
-
 pub claims-spec : {M : Type 1} → statement M
-claims-spec = tie.close (tie.spec (λ c κs. search needs) returns)
+unfolding claimsIn unpack fields
+claims-spec = tie.close (tie.spec (λ c κs. search needs) (λ c. c .get .ensures))

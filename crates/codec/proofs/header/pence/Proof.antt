@@ -6,9 +6,6 @@ use borrow.Author.Needs.{needs}
 use Rattle.codec.proofs.header.pence.Statement.{statement}
 use Rattle.codec.proofs.header.pence.Tie as tie
 
-returns : tie.Need-returns
-unfolding penceIn unpack fields
-returns c = c .get .ensures
-
 pub pence-spec : {M : Type 1} → statement M
-pence-spec = tie.close (tie.spec (λ c κs. search needs) returns)
+unfolding penceIn unpack fields
+pence-spec = tie.close (tie.spec (λ c κs. search needs) (λ c. c .get .ensures))

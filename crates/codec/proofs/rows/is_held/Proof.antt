@@ -1,8 +1,4 @@
 -- `is_held` reads the slot's first bit.
-use mathlib.Core.Path.{ap}
-use mathlib.Core.Bool.{not}
-use Prim.Native.Nat.{ℕ}
-use lib.Dec.{eqb}
 use Rattle.fields.specs.Fields.{fields}
 use Rattle.records.specs.Pack.{unpack}
 use Rattle.records.specs.OneSlot.{isTaken, slotNumbers}
@@ -10,9 +6,6 @@ use borrow.Author.Needs.{needs}
 use Rattle.codec.proofs.rows.is_held.Statement.{statement}
 use Rattle.codec.proofs.rows.is_held.Tie as tie
 
-returns : tie.Need-returns
-unfolding isTaken slotNumbers unpack fields
-returns c = ap (λ (n : ℕ). not (eqb n 0)) (c .get-window .ensures)
-
 pub is-held-spec : {M : Type 1} → statement M
-is-held-spec = tie.close (tie.spec (λ c κs. search needs) returns)
+unfolding isTaken slotNumbers unpack fields
+is-held-spec = tie.close (tie.spec (λ c κs. search needs) (λ c. cc))

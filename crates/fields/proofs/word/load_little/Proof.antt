@@ -7,8 +7,7 @@ use Rattle.fields.proofs.word.load_little.Tie as tie
 
 returns : tie.Need-returns
 unfolding littleAt
-returns c =
-    omega (arith, c .with-byte-above7 .ensures .0, c .before .wide8 .ensures .0, c .before .before .before .with-byte-above6 .ensures .0, c .before .before .before .before .wide7 .ensures .0, c .before .before .before .before .before .before .with-byte-above5 .ensures .0, c .before .before .before .before .before .before .before .wide6 .ensures .0, c .before .before .before .before .before .before .before .before .before .with-byte-above4 .ensures .0, c .before .before .before .before .before .before .before .before .before .before .wide5 .ensures .0, c .before .before .before .before .before .before .before .before .before .before .before .before .with-byte-above3 .ensures .0, c .before .before .before .before .before .before .before .before .before .before .before .before .before .wide4 .ensures .0, c .before .before .before .before .before .before .before .before .before .before .before .before .before .before .before .with-byte-above2 .ensures .0, c .before .before .before .before .before .before .before .before .before .before .before .before .before .before .before .before .wide3 .ensures .0, c .before .before .before .before .before .before .before .before .before .before .before .before .before .before .before .before .before .before .with-byte-above .ensures .0, c .before .before .before .before .before .before .before .before .before .before .before .before .before .before .before .before .before .before .before .wide2 .ensures .0, c .before .before .before .before .before .before .before .before .before .before .before .before .before .before .before .before .before .before .before .before .before .wide .ensures .0)
+returns c = omega arith
 
 pub load-little-spec : {M : Type 1} → statement M
 load-little-spec =

@@ -2,6 +2,7 @@
 use mathlib.Core.Path.{sym, _∙_}
 use Prim.Native.Nat.{_-_}
 use native.Mathlib.Omega.{arith}
+use Rattle.limits.specs.Limits.{rowCount}
 use Rattle.layout.specs.Present.{rules, layout}
 use Rattle.layout.proofs.Lawful.{offsets}
 use Rattle.layout.proofs.Present.{present}
@@ -14,7 +15,7 @@ abbrev Inv-loop : tie.InvT-loop
 Inv-loop b i₀ least₀ due₀ i least due = Passing rules layout b i least due
 
 abbrev μ-loop : tie.MeasureT-loop
-μ-loop b i₀ least₀ due₀ i least due = 1024 - i
+μ-loop b i₀ least₀ due₀ i least due = rowCount - i
 
 loop-holds : tie.Need-loop-holds Inv-loop μ-loop
 loop-holds c = pass-begins present _
@@ -80,4 +81,5 @@ check-rows-spec =
     (λ c. search needs)
     (λ c. search needs)
     loop-again
+    (λ c. search needs)
     returns-4)

@@ -7,11 +7,12 @@ use native.Mathlib.Nat.{not-suc-le-zero}
 use native.Mathlib.Omega.{arith}
 use borrow.Author.Count.{below-more}
 use lib.ListN.{take, drop}
+use Rattle.limits.specs.Limits.{contractCount}
 use Rattle.basics.proofs.Tests.{not-yes, not-no}
 use Rattle.records.specs.Slots.{slotOk}
 use Rattle.layout.specs.Layout.{territoryIn}
-use Rattle.layout.specs.PackedLedger.{contractKind, rangesOf}
-use Rattle.layout.specs.Offsets.{firstContract, contractLength, contractCount}
+use Rattle.layout.specs.PresentLayout.{contractRecord}
+use Rattle.layout.specs.Offsets.{firstContract, contractLength}
 use Rattle.records.specs.OneSlot.{slotNumbers, slotAt}
 use Rattle.records.proofs.OneSlot.{part-lent}
 use Rattle.layout.proofs.Present.{present}
@@ -20,11 +21,12 @@ use Rattle.layout.specs.Present.{rules, layout}
 use Rattle.layout.proofs.Lawful.{offsets}
 use borrow.Author.Needs.{needs}
 use Rattle.ledger.proofs.check.contracts_ok.Statement.{statement}
+use Rattle.model.specs.PresentRules.{contractRanges}
 use Rattle.ledger.proofs.check.contracts_ok.Tie as tie
 
 -- the test of contract slot c
 abbrev tested : ℕ → List ℕ → ℕ → Bool
-tested territory b c = slotOk contractKind (rangesOf territory) (slotNumbers contractKind (take contractLength (drop (firstContract + c * contractLength) b)))
+tested territory b c = slotOk contractRecord (contractRanges territory) (slotNumbers contractRecord (take contractLength (drop (firstContract + c * contractLength) b)))
 
 abbrev Inv-loop : tie.InvT-loop
 Inv-loop b territory c₀ c =
@@ -40,7 +42,7 @@ loop-holds c = (omega arith, (c .territory .ensures, λ i h. absurd (not-suc-le-
 found : (c : tie.After-slot-ok Inv-loop μ-loop) → c .slot-ok .result ≡ tested (c .before .before .before .before .territory .result) (c .before .before .before .before .before .before .args .b .now) (c .before .before .before .loop .c)
 found c =
     c .slot-ok .ensures
-    ∙ ap (λ (s : List ℕ). slotOk contractKind (rangesOf (c .before .before .before .before .territory .result)) (slotNumbers contractKind s))
+    ∙ ap (λ (s : List ℕ). slotOk contractRecord (contractRanges (c .before .before .before .before .territory .result)) (slotNumbers contractRecord s))
     (part-lent (firstContract + c .before .before .before .loop .c * contractLength) contractLength (c .before .before .before .before .before .before .args .b .now))
 
 returns : tie.Need-returns Inv-loop μ-loop

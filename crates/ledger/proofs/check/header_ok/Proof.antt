@@ -4,6 +4,7 @@ use mathlib.Core.Bool.{true, false}
 use Prim.Native.Nat.{ℕ}
 use lib.Dec.{leb}
 use borrow.Author.Tests.{le-leb, lt-leb, ne-eqb}
+use Rattle.limits.specs.Limits.{mostClaims}
 use Rattle.layout.specs.Layout.{claimsIn}
 use Rattle.layout.specs.Check.{headerOk}
 use Rattle.layout.specs.Present.{rules, layout}
@@ -15,10 +16,10 @@ use Rattle.ledger.proofs.check.header_ok.Tie as tie
 abbrev made : tie.After-claims → ℕ
 made c = claimsIn rules layout (c .before .before .args .b .now)
 
-many : (c : tie.Then1) → leb (made (c .before)) 1000 ≡ false
+many : (c : tie.Then1) → leb (made (c .before)) mostClaims ≡ false
 many c = lt-leb _ _ (rw (c .before .claims .ensures) at (c .if1 .taken))
 
-few : (c : tie.Else1) → leb (made (c .before)) 1000 ≡ true
+few : (c : tie.Else1) → leb (made (c .before)) mostClaims ≡ true
 few c = le-leb _ _ (rw (c .before .claims .ensures) at (c .if1 .left))
 
 returns : tie.Need-returns

@@ -1,7 +1,7 @@
 -- `contract_at` unpacks the contract's slot.
 use mathlib.Core.Path.{ap, _∙_}
 use Prim.Native.Nat.{_+_, _*_}
-use Rattle.layout.specs.PackedLedger.{contractKind}
+use Rattle.layout.specs.PresentLayout.{contractRecord}
 use Rattle.layout.specs.Offsets.{firstContract, contractLength}
 use Rattle.records.specs.OneSlot.{recordIn}
 use Rattle.records.proofs.OneSlot.{part-lent}
@@ -17,7 +17,7 @@ unfolding offsets
 returns c =
     let start = c .before .before .before in
     c .unpack-contract .ensures
-    ∙ ap (recordIn contractKind) (part-lent (firstContract + start .args .c * contractLength) contractLength (start .args .b .now))
+    ∙ ap (recordIn contractRecord) (part-lent (firstContract + start .args .c * contractLength) contractLength (start .args .b .now))
     ∙ contract-read present (start .args .b .now) (start .pre .0) (start .args .c) (start .pre .1 .0) (start .pre .1 .1)
 
 pub contract-at-spec : {M : Type 1} → statement M

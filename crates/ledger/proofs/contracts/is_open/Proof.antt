@@ -1,7 +1,7 @@
 -- `is_open` reads the first bit of the contract's slot.
 use mathlib.Core.Path.{ap, _∙_}
 use Prim.Native.Nat.{_+_, _*_}
-use Rattle.layout.specs.PackedLedger.{contractKind}
+use Rattle.layout.specs.PresentLayout.{contractRecord}
 use Rattle.layout.specs.Offsets.{firstContract, contractLength}
 use Rattle.records.specs.OneSlot.{isTaken}
 use Rattle.records.proofs.OneSlot.{part-lent}
@@ -17,7 +17,7 @@ unfolding offsets
 returns c =
     let start = c .before .before .before in
     c .is-open .ensures
-    ∙ ap (isTaken contractKind) (part-lent (firstContract + start .args .c * contractLength) contractLength (start .args .b .now))
+    ∙ ap (isTaken contractRecord) (part-lent (firstContract + start .args .c * contractLength) contractLength (start .args .b .now))
     ∙ contract-open present (start .args .b .now) (start .pre .0) (start .args .c) (start .pre .1)
 
 pub is-open-spec : {M : Type 1} → statement M

@@ -1,7 +1,7 @@
 -- `row_at` unpacks the slot.
 use mathlib.Core.Path.{ap, _∙_}
 use Prim.Native.Nat.{_+_, _*_}
-use Rattle.layout.specs.PackedLedger.{rowKind}
+use Rattle.layout.specs.PresentLayout.{rowRecord}
 use Rattle.layout.specs.Offsets.{firstRow, rowLength}
 use Rattle.records.specs.OneSlot.{recordIn, slotAt}
 use Rattle.records.proofs.OneSlot.{part-lent}
@@ -15,7 +15,7 @@ returns : tie.Need-returns
 unfolding rowAt recordIn slotAt offsets
 returns c =
     let start = c .before .before .before in
-    c .unpack-row .ensures ∙ ap (recordIn rowKind) (part-lent (firstRow + start .args .i * rowLength) rowLength (start .args .b .now))
+    c .unpack-row .ensures ∙ ap (recordIn rowRecord) (part-lent (firstRow + start .args .i * rowLength) rowLength (start .args .b .now))
 
 pub row-at-spec : {M : Type 1} → statement M
 row-at-spec =

@@ -7,31 +7,31 @@ use Rattle.session.proofs.LedgerReplies.{line-said, ledger-left, book-l
 use Rattle.session.proofs.replies.reply.Statement.{statement}
 use Rattle.session.proofs.replies.reply.Tie as tie
 
-tell-requires : tie.Need-tell-requires
-tell-requires c κs = same-fits (c .before .before .start .ensures .0) (start-fits _ _)
+reply-of-requires : tie.Need-reply-of-requires
+reply-of-requires c κs = same-fits (c .before .before .start .ensures .0) (start-fits _ _)
 
-tell-requires-2 : tie.Need-tell-requires-2
-tell-requires-2 c κs = c .before .before .perform .ensures .fits
+reply-of-requires-2 : tie.Need-reply-of-requires-2
+reply-of-requires-2 c κs = c .before .before .perform .ensures .fits
 
 returns : tie.Need-returns
 unfolding outcome
 returns c =
     let d = c .before .before .before in
-    rw (d .before .before .before .command .given .1) (line-said (c .tell .ensures) (d .start .ensures .0), ledger-left (d .start .ensures .1))
+    rw (d .before .before .before .command .given .1) (line-said (c .reply-of .ensures) (d .start .ensures .0), ledger-left (d .start .ensures .1))
 
 returns-2 : tie.Need-returns-2
 unfolding outcome
 returns-2 c =
     let d = c .before .before .before in
-    rw (d .before .before .before .before .command2 .given .1) (line-said (c .tell2 .ensures) (d .perform .ensures .answered), ledger-left (d .perform .ensures .left))
+    rw (d .before .before .before .before .command2 .given .1) (line-said (c .reply-of2 .ensures) (d .perform .ensures .answered), ledger-left (d .perform .ensures .left))
 
 returns-3 : tie.Need-returns-3
 unfolding outcome
-returns-3 c = rw (c .before .before .before .command3 .given .1, ← c .before .day .ensures) (c .tell-day .ensures, refl)
+returns-3 c = rw (c .before .before .before .command3 .given .1, ← c .before .day .ensures) (c .reply-of-day .ensures, refl)
 
 returns-4 : tie.Need-returns-4
 unfolding outcome
-returns-4 c = rw (c .before .before .before .command4 .given .1, ← c .before .date .ensures) (c .tell-date .ensures, refl)
+returns-4 c = rw (c .before .before .before .command4 .given .1, ← c .before .date .ensures) (c .reply-of-date .ensures, refl)
 
 returns-5 : tie.Need-returns-5
 unfolding outcome
@@ -41,7 +41,7 @@ returns-5 c =
 
 returns-6 : tie.Need-returns-6
 unfolding outcome
-returns-6 c = rw (c .before .enum-told .given .1) (c .told-number .ensures, refl)
+returns-6 c = rw (c .before .enum-told .given .1) (c .reply-without-numbers .ensures, refl)
 
 pub reply-spec : {M : Type 1} → statement M
 reply-spec =
@@ -49,10 +49,10 @@ reply-spec =
     (tie.spec
     (λ c. search needs)
     (λ c κs. search needs)
-    tell-requires
+    reply-of-requires
     (λ c. search needs)
     (λ c κs. search needs)
-    tell-requires-2
+    reply-of-requires-2
     (λ c. search needs)
     (λ c κs. search needs)
     (λ c κs. search needs)

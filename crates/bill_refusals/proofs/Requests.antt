@@ -1,0 +1,100 @@
+-- What is requested and where its row is placed, by the first test that fits; and what each outcome says of the tests. Assumes nothing.
+use mathlib.Core.Path.{_≡_, sym, ap, ap₂, _∙_}
+use mathlib.Core.Bool.{Bool, true, false, not}
+use mathlib.Core.List.{List}
+use Prim.Native.Nat.{ℕ, zero, suc, _≤_, _<_}
+use lib.Dec.{ltb, leb}
+use borrow.Author.Tests.{ltb-true, le-leb, lt-leb, le-ltb, lt-ltb}
+use Rattle.limits.specs.Limits.{rowCount}
+use Rattle.basics.specs.Lists.{count}
+use Rattle.basics.proofs.Lists.{count-true}
+use Rattle.rates.specs.declared.Contract.{Contract}
+use Rattle.rates.specs.declared.Bill.{Bill}
+use Rattle.model.specs.declared.Request.{Request}
+use Rattle.model.specs.Contracts.{contractAt}
+use Rattle.model.specs.Calls.{View, firstOf, billUnder, requestedBill}
+use Rattle.model.specs.Ledger.{view}
+use Rattle.model.specs.Rules.{unlessRefused}
+use Rattle.model.specs.PresentRules.{badAmounts, noPrice, requestTests}
+use Rattle.model.specs.Places.{placeOf}
+use Rattle.model.proofs.Places.{count-at}
+use Rattle.layout.specs.Layout.{ledgerOf}
+use Rattle.layout.specs.Present.{Searched, facts, contracts}
+use Rattle.ledger.specs.Answered.{viewOf}
+use Rattle.ledger.proofs.Refusals.{refusals, open-refused, open-passed}
+use Rattle.bill_refusals.specs.declared.Requested.{Requested}
+use Rattle.bill_refusals.specs.declared.Placed.{Placed}
+use Rattle.bill_refusals.specs.Requests.{requestedOf, placed}
+
+-- ---- a request
+
+module _ (v : View) (q : Request) (book : List ℕ) where
+  pub requested-refused : (n : ℕ) → n ≡ firstOf (requestTests v q book) → (n ≡ 0 → ⊥) → Requested.Refused n ≡ requestedOf v q book
+  unfolding requestedOf
+  requested-refused n e some = go (firstOf (requestTests v q book)) e
+    where
+      go : (m : ℕ) → n ≡ m → Requested.Refused n ≡ unlessRefused m (Requested.Bill (contractAt (v .contracts) (q .contract)) (requestedBill (v .contracts) q book)) (Requested.Refused m)
+      go zero h = absurd (some h)
+      go (suc m) h = ap Requested.Refused h
+
+  pub requested-bill : (k : Contract) (x : Bill) → 0 ≡ firstOf (requestTests v q book) → k ≡ contractAt (v .contracts) (q .contract) → x ≡ billUnder k q book
+      → Requested.Bill k x ≡ requestedOf v q book
+  unfolding requestedOf requestedBill
+  requested-bill k x none read made = rw (← none) (ap₂ Requested.Bill read (made ∙ ap (λ (j : Contract). billUnder j q book) read))
+
+-- ---- a place
+
+pub placed-refused : (n number place : ℕ) → n ≡ number → (n ≡ 0 → ⊥) → Placed.Refused n ≡ placed number place
+unfolding placed
+placed-refused n zero place e some = absurd (some e)
+placed-refused n (suc m) place e some = ap Placed.Refused e
+
+pub placed-at : (i number place : ℕ) → 0 ≡ number → i ≡ place → Placed.At i ≡ placed number place
+unfolding placed
+placed-at i number place none e = rw (← none) (ap Placed.At e)
+
+-- ---- the held rows, and the price that a bill needs, by what was found in the packed ledger
+
+module _ (b : List ℕ) (rows : ℕ) (s : Searched b rows) where
+  pub row-found : (p : Bill → Bool) (place : ℕ) → place ≡ placeOf p (facts b .rows) → ltb place rows ≡ ltb 0 (viewOf b .held p)
+  unfolding view
+  row-found p place e = ap₂ (λ (m n : ℕ). ltb m n) e (s .count) ∙ sym (count-at p (facts b .rows))
+
+  pub no-row : (p : Bill → Bool) (place : ℕ) → place ≡ placeOf p (facts b .rows) → rows ≤ place → not (ltb 0 (viewOf b .held p)) ≡ true
+  no-row p place e h = ap not (sym (row-found p place e) ∙ le-ltb place rows h)
+
+  pub a-row : (p : Bill → Bool) (place : ℕ) → place ≡ placeOf p (facts b .rows) → place < rows → not (ltb 0 (viewOf b .held p)) ≡ false
+  a-row p place e h = ap not (sym (row-found p place e) ∙ lt-ltb place rows h)
+
+  -- where a row passes, the place is that of a held row
+  pub place-held : (p : Bill → Bool) (place : ℕ) → place ≡ placeOf p (facts b .rows) → 0 < viewOf b .held p → place < rows
+  place-held p place e h = ltb-true place rows (row-found p place e ∙ lt-ltb 0 (viewOf b .held p) h)
+
+  pub held-all : viewOf b .held (λ x. true) ≡ rows
+  unfolding view
+  held-all = count-true (facts b .rows) ∙ sym (s .count)
+
+  pub full : rowCount ≤ rows → leb rowCount (viewOf b .held (λ x. true)) ≡ true
+  full h = rw held-all (le-leb rowCount rows h)
+
+  pub not-full : rows < rowCount → leb rowCount (viewOf b .held (λ x. true)) ≡ false
+  not-full h = rw held-all (lt-leb rowCount rows h)
+
+pub price-found : (b : List ℕ) (c price : ℕ) (k : Contract) (r v : Bool) → k ≡ contractAt (contracts b) c → r ≡ noPrice (k .kind) price → r ≡ v
+    → noPrice (contractAt (viewOf b .contracts) c .kind) price ≡ v
+unfolding view ledgerOf
+price-found b c price k r v read e f = ap (λ (j : Contract). noPrice (j .kind) price) (sym read) ∙ sym e ∙ f
+
+pub amounts-found : (b : List ℕ) (q : Request) (k : Contract) (r v : Bool) → k ≡ contractAt (contracts b) (q .contract) → r ≡ badAmounts k q → r ≡ v
+    → badAmounts (contractAt (viewOf b .contracts) (q .contract)) q ≡ v
+unfolding view ledgerOf
+amounts-found b q k r v read e f = ap (λ (j : Contract). badAmounts j q) (sym read) ∙ sym e ∙ f
+
+-- the contract that a request names
+pub contract-found : (b : List ℕ) (k : Contract) (c : ℕ) → k ≡ contractAt (contracts b) c → k ≡ contractAt (viewOf b .contracts) c
+unfolding view ledgerOf
+contract-found b k c e = e
+
+pub ruleset request-refusals = (refusals, open-refused, open-passed, amounts-found)
+
+pub ruleset row-refusals = (refusals, no-row, a-row, full, not-full, price-found)

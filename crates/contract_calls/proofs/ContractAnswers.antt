@@ -1,0 +1,112 @@
+-- What open and cert answer and leave, by the number that turns them down and by what is written. Assumes nothing.
+use mathlib.Core.Path.{_≡_, refl, sym, ap, _∙_}
+use mathlib.Core.Bool.{Bool, true}
+use mathlib.Core.List.{List, [], map}
+use Prim.Native.Nat.{ℕ, _+_, _*_, _^_, _<_}
+use native.Mathlib.Omega.{arith}
+use lib.IntN.{ℤ, subℕ}
+use Rattle.limits.specs.Limits.{contractCount}
+use Rattle.basics.proofs.Lists.{total-map}
+use Rattle.fields.specs.Fields.{Fit}
+use Rattle.records.specs.Edits.{replaceAt}
+use Rattle.records.specs.OneSlot.{recordBytes}
+use Rattle.rates.specs.declared.Contract.{Contract}
+use Rattle.model.specs.declared.Answer.the-variants.{Refused, Done, Certified}
+use Rattle.model.specs.declared.Call.{Call}
+use Rattle.model.specs.Calls.{_with_}
+use Rattle.model.specs.Codes.{opening, certify}
+use Rattle.model.specs.Contracts.{contractAt, isOpen}
+use Rattle.model.specs.Rules.{refusal}
+use Rattle.model.specs.PresentRules.{badKind, tests}
+use Rattle.model.specs.Ledger.{view, withRows, rerated, accept}
+use Rattle.model.proofs.RulesLaws.{Opened, Certified as Taken}
+use Rattle.model.proofs.RowBounds.{due-low}
+use Rattle.layout.specs.Layout.{territoryIn, ledgerOf}
+use Rattle.layout.specs.PresentLayout.{contractRecord}
+use Rattle.layout.specs.Offsets.{firstContract, contractLength}
+use Rattle.layout.specs.Present.{Formed, rules, layout, facts, contracts}
+use Rattle.layout.proofs.PresentLayout.{contract-fits}
+use Rattle.layout.proofs.Present.{present, facts-kept, repacked}
+use Rattle.edits.proofs.PackedChanges.{written-contract}
+use Rattle.ledger.specs.Answered.{viewOf, Summed, AnsweredWithAnyBook}
+use Rattle.ledger.proofs.Refusals.{refused-answered, accepted-answered}
+use Rattle.contract_calls.specs.declared.rerating.Rerated.{Rerated}
+use Rattle.contract_calls.specs.Rerating.{Certifiable, RowsRerated}
+use Rattle.contract_calls.proofs.RowsRerating.{new-sum-most}
+
+-- ---- open
+
+-- the test of the kind, with the territory that was read
+pub kind-found : (b : List ℕ) (t fuel kind : ℕ) (r v : Bool) → t ≡ territoryIn rules layout b → r ≡ badKind t fuel kind → r ≡ v → badKind (viewOf b .territory) fuel kind ≡ v
+unfolding view ledgerOf
+kind-found b t fuel kind r v read e f = ap (λ (n : ℕ). badKind n fuel kind) (sym read) ∙ sym e ∙ f
+
+module _ (b : List ℕ) (contract fuel kind fix entry n : ℕ) (f : Formed b) (e : n ≡ refusal rules (viewOf b) (Call.Open contract fuel kind fix entry with [])) where
+  pub not-opened : (n ≡ 0 → ⊥) → AnsweredWithAnyBook b (Call.Open contract fuel kind fix entry) (Refused n) b
+  unfolding refusal tests
+  not-opened some book = refused-answered b _ n f e some
+
+  module _ (none : n ≡ 0) where
+    taken : Opened rules (viewOf b) contract (opening fuel kind fix entry)
+    taken = present .rules .opens (viewOf b) contract fuel kind fix entry [] (sym e ∙ none)
+
+    pub opened-number : contract < contractCount
+    opened-number = taken .number
+
+    module _ (k : Contract) (made : k ≡ opening fuel kind fix entry) where
+      pub opened-fits : Fit (contractRecord .widths) (contractRecord .values k)
+      opened-fits = contract-fits (viewOf b .territory) k (rw made (taken .ranges))
+
+      pub opened : (after : List ℕ) → after ≡ replaceAt (firstContract + contract * contractLength) (recordBytes contractRecord k) b
+          → AnsweredWithAnyBook b (Call.Open contract fuel kind fix entry) Done after
+      unfolding refusal tests accept
+      opened after put book =
+          accepted-answered b _ f (sym none ∙ e) refl
+          (written-contract (facts b) b after (sym (repacked b f)) contract k opened-number put ∙ rw made)
+
+-- ---- cert
+
+module _ (b : List ℕ) (rows sum contract class effective : ℕ) where
+  pub not-certified : (n : ℕ) → Summed b rows sum → n ≡ refusal rules (viewOf b) (Call.Cert contract class effective with []) → (n ≡ 0 → ⊥)
+      → AnsweredWithAnyBook b (Call.Cert contract class effective) (Refused n) b
+  unfolding refusal tests
+  not-certified n s e some book = refused-answered b _ n (s .searched .formed) e some
+
+  module _ (ok : Certifiable b rows sum contract class effective) where
+    accepted-cert : Taken rules (viewOf b) contract class effective
+    accepted-cert = present .rules .certs (viewOf b) contract class effective [] (sym (ok .accepted))
+
+    pub certified-number : contract < contractCount
+    certified-number = accepted-cert .number
+
+    pub certified-open : isOpen (contracts b) contract ≡ true
+    unfolding view ledgerOf
+    certified-open = accepted-cert .isOpened
+
+    -- the contract that was read, and that with the certificate
+    module _ (old k : Contract) (read : old ≡ contractAt (contracts b) contract) (made : k ≡ certify old class effective) where
+      is-certified : k ≡ certify (contractAt (facts b .contracts) contract) class effective
+      unfolding ledgerOf
+      is-certified = made ∙ ap (λ (c : Contract). certify c class effective) read
+
+      pub certified-fits : Fit (contractRecord .widths) (contractRecord .values k)
+      unfolding view
+      certified-fits =
+          let kept = facts-kept b (ok .summed .searched .formed) in
+          contract-fits (viewOf b .territory) k (rw is-certified (accepted-cert .ranges _ (kept .contracts contract (accepted-cert .isOpened))))
+
+      module _ (r : Rerated) (rated : List ℕ) (t : RowsRerated contract k b r rated) where
+        -- the two sums are small enough for their difference
+        pub new-sum-low : r .due < 2 ^ 62
+        new-sum-low = omega (arith, t .due, total-map (λ x. x .amount) (rerated rules contract k) (facts b .rows), new-sum-most b rows contract k (ok .summed .searched))
+
+        pub certified : (after : List ℕ) (change : ℤ) → after ≡ replaceAt (firstContract + contract * contractLength) (recordBytes contractRecord k) rated
+            → change ≡ subℕ (r .due) sum → AnsweredWithAnyBook b (Call.Cert contract class effective) (Certified change (r .changed)) after
+        unfolding refusal tests accept
+        certified after change put net book =
+            accepted-answered b _ (ok .summed .searched .formed) (ok .accepted)
+            (rw (net, t .due, t .changed, ok .summed .total, is-certified))
+            (written-contract (withRows (facts b) (map (rerated rules contract k) (facts b .rows))) rated after (t .left) contract k certified-number put ∙ rw is-certified)
+
+  pub sum-low : Certifiable b rows sum contract class effective → sum < 2 ^ 62
+  sum-low ok = omega (arith, ok .summed .total, due-low (facts-kept b (ok .summed .searched .formed)) (present .rules))

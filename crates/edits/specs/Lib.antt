@@ -1,0 +1,2 @@
+-- What is needed to change the rows of a packed ledger.
+pub mod RowEdits

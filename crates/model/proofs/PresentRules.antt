@@ -1,0 +1,158 @@
+-- Document 01's rules keep the laws that the proofs use. Assumes nothing.
+use mathlib.Core.Path.{_≡_, refl, ap, _∙_}
+use mathlib.Core.Bool.{true, false, not, _&&_}
+use mathlib.Core.List.{List, [], _∷_}
+use Prim.Native.Nat.{ℕ, _≤_}
+use native.Mathlib.Omega.{arith}
+use lib.Dec.{T}
+use Rattle.limits.specs.Limits.{highestPrice, mostKwhStored, contractCount, rowCount, mostClaims}
+use Rattle.basics.proofs.Tests.{not-no, no-not, not-yes, lt-no, lt-yes, le-no, le-yes, yes-le, all-every}
+use Rattle.rates.specs.declared.Contract.{Contract}
+use Rattle.rates.specs.declared.Bill.{Bill}
+use Rattle.rates.proofs.WithinCaps.{amount-capped, amount-low}
+use Rattle.model.specs.Codes.{opening, certify}
+use Rattle.model.specs.ContractNumbers.{numbersOfContract, contractOfNumbers, fuelIn, kindIn, priceFixDayIn, entryDayIn, classIn, effectiveDayIn}
+use Rattle.model.specs.Contracts.{contractAt, isOpen}
+use Rattle.model.specs.declared.Call.{Call}
+use Rattle.model.specs.declared.Request.{Request}
+use Rattle.model.specs.Calls.{CallWithBook, View, named, sharing, requestedBill, _with_}
+use Rattle.model.specs.Book.{reference}
+use Rattle.model.specs.Rules.{refusal}
+use Rattle.model.specs.PresentRules.{badBook, badNumber, badKind, badClass, badDays, badEffective, badSpan, badAmounts, noPrice, tests, contractTests, contractRanges, contractOk, billTests, billOk, most, presentRules}
+use Rattle.model.proofs.Refusals.{fitsAt, numbered, clear}
+use Rattle.model.proofs.Codes.{fuel-code, kind-code, kind-days, class-code, class-day}
+use Rattle.model.proofs.AcceptedBill.{span-days, kind-low, kwh-low, supply-low, price-low}
+use Rattle.model.proofs.RulesLaws.{Taken, Opened, Certified, RulesLaws}
+
+-- an accepted call's test of that number did not fit
+pub passed : (v : View) (c : CallWithBook) → refusal presentRules v c ≡ 0 → (n : ℕ) → fitsAt (tests v c) n ≡ false
+unfolding refusal tests
+passed v c e n = clear (tests v c) (all v c) e n
+  where
+    all : (v : View) (c : CallWithBook) → T (numbered (tests v c))
+    all v (Call.Open c fuel kind fix entry with book) = tt
+    all v (Call.Bill q with book) = tt
+    all v (Call.Rebill q with book) = tt
+    all v (Call.Cert c class effective with book) = tt
+    all v (Call.Cancel c first with book) = tt
+    all v (Call.Claim with book) = tt
+    all v (Call.Report c with book) = tt
+    all v (Call.Total with book) = tt
+
+-- ---- the ranges
+
+-- those of an open contract, by its numbers
+pub record ContractRanges (t : ℕ) (v : List ℕ) : Type 0 where
+  pub kind : badKind t (fuelIn v) (kindIn v) ≡ false
+  pub days : badDays (kindIn v) (priceFixDayIn v) (entryDayIn v) ≡ false
+  pub class : badClass (classIn v) ≡ false
+  pub effective : badEffective (classIn v) (effectiveDayIn v) ≡ false
+
+pub contract-ranges : (t : ℕ) (v : List ℕ) → contractRanges t v ≡ true → ContractRanges t v
+unfolding contractRanges
+contract-ranges t v e =
+    let a = all-every (contractTests t v) e in
+    record { kind = not-yes _ (search); days = not-yes _ (search); class = not-yes _ (search); effective = not-yes _ (search) }
+
+in-ranges : (t : ℕ) (v : List ℕ) → ContractRanges t v → contractRanges t v ≡ true
+unfolding contractRanges
+in-ranges t v r = rw (r .kind, r .days, r .class, r .effective)
+
+-- numbers in the ranges are those of the contract made of them
+pub contract-numbers : (t : ℕ) (v : List ℕ) → contractRanges t v ≡ true
+    → numbersOfContract (contractOfNumbers v) ≡ fuelIn v ∷ kindIn v ∷ priceFixDayIn v ∷ entryDayIn v ∷ classIn v ∷ effectiveDayIn v ∷ []
+contract-numbers t v e =
+    let r = contract-ranges t v e in
+    let low = kind-low t (fuelIn v) (kindIn v) (r .kind) in
+    let days = kind-days (kindIn v) (priceFixDayIn v) (entryDayIn v) (r .days) in
+    let class : classIn v ≤ 2 = lt-no 2 _ (r .class) in
+    rw (fuel-code _ (low .0), kind-code _ (priceFixDayIn v) (entryDayIn v) (low .1), days .0, days .1, class-code _ (effectiveDayIn v) class, class-day _ _ class (r .effective))
+
+-- those of a held row, by its bill
+pub record BillRanges (k : Contract) (b : Bill) : Type 0 where
+  pub span : badSpan (b .first) (b .last) ≡ false
+  pub kwh : b .kwh ≤ mostKwhStored
+  pub supply : b .supply ≤ highestPrice
+  pub reference : b .reference ≤ highestPrice
+  pub priced : noPrice (k .kind) (b .reference) ≡ false
+
+pub bill-ranges : (k : Contract) (b : Bill) → billOk k b ≡ true → BillRanges k b
+unfolding billOk
+bill-ranges k b e =
+    let a = all-every (billTests k b) e in
+    record { span = not-yes _ (search); kwh = le-yes _ _ (search); supply = le-yes _ _ (search); reference = le-yes _ _ (search); priced = not-yes _ (search) }
+
+-- an opened contract keeps the ranges, and so does one with another certificate
+opening-ok : (t fuel kind fix entry : ℕ) → badKind t fuel kind ≡ false → badDays kind fix entry ≡ false → contractOk t (opening fuel kind fix entry) ≡ true
+unfolding contractOk opening badEffective
+opening-ok t fuel kind fix entry e f =
+    let v = fuel ∷ kind ∷ fix ∷ entry ∷ 0 ∷ 0 ∷ [] in
+    let r = in-ranges t v (record { kind = e; days = f; class = refl; effective = refl }) in
+    ap (contractRanges t) (contract-numbers t v r) ∙ r
+
+certified-ok : (t : ℕ) (k : Contract) (class effective : ℕ) → badClass class ≡ false → badEffective class effective ≡ false → contractOk t k ≡ true → contractOk t (certify k class effective) ≡ true
+unfolding contractOk certify
+certified-ok t k class effective e f h =
+    let r = contract-ranges t (numbersOfContract k) h in
+    let low : class ≤ 2 = lt-no 2 class e in
+    rw (class-code class effective low, class-day class effective low f) (in-ranges t _ (record { kind = r .kind; days = r .days; class = e; effective = f }))
+
+-- ---- the accepted calls
+
+opens : (v : View) (c fuel kind fix entry : ℕ) (book : List ℕ) → refusal presentRules v (Call.Open c fuel kind fix entry with book) ≡ 0 → Opened presentRules v c (opening fuel kind fix entry)
+unfolding tests
+opens v c fuel kind fix entry book e =
+    let p = passed v (Call.Open c fuel kind fix entry with book) e in
+    record { number = le-no contractCount c (p 4); new = p 5; ranges = opening-ok (v .territory) fuel kind fix entry (p 6) (p 7) }
+
+certs : (v : View) (c class effective : ℕ) (book : List ℕ) → refusal presentRules v (Call.Cert c class effective with book) ≡ 0 → Certified presentRules v c class effective
+unfolding tests
+certs v c class effective book e =
+    let p = passed v (Call.Cert c class effective with book) e in
+    record { number = le-no contractCount c (p 4); isOpened = not-no _ (p 5); ranges = λ k h. certified-ok (v .territory) k class effective (p 6) (p 7) h }
+
+any-cert : (k : Contract) (class effective : ℕ) (b : Bill) → billOk k b ≡ true → billOk (certify k class effective) b ≡ true
+unfolding billOk certify
+any-cert k class effective b e = e
+
+module _ (v : View) (q : Request) (book : List ℕ) where
+  abbrev k : Contract
+  k = contractAt (v .contracts) (q .contract)
+
+  taken : badBook book ≡ false → badNumber (q .contract) ≡ false → not (isOpen (v .contracts) (q .contract)) ≡ false
+      → badSpan (q .first) (q .last) ≡ false → badAmounts k q ≡ false → noPrice (k .kind) (reference k (q .first) (q .wap) book) ≡ false → Taken presentRules v q book
+  unfolding billOk requestedBill
+  taken e3 e4 e5 e7 e8 e11 =
+      record {
+        number = le-no contractCount (q .contract) e4;
+        isOpened = not-no _ e5;
+        ranges = λ g. rw (
+          no-not _ e7,
+          yes-le (q .kwh) mostKwhStored (omega (arith, kwh-low k q book e3 e8)),
+          yes-le (q .supply) highestPrice (supply-low k q book e3 e8),
+          yes-le _ highestPrice (price-low k q book e3 e8),
+          no-not _ e11,
+        );
+      }
+
+pub present-rules-laws : RulesLaws presentRules
+unfolding tests refusal most
+present-rules-laws = record {
+  opens = opens;
+  bills = λ v q book e. let p = passed v (Call.Bill q with book) e in taken v q book (p 3) (p 4) (p 5) (p 7) (p 8) (p 11);
+  bill-free = λ v q book e. let h = lt-no 0 (v .held (sharing (q .contract) (q .first) (q .last))) (passed v (Call.Bill q with book) e 10) in omega arith;
+  bill-room = λ v q book e. le-no rowCount (v .held (λ x. true)) (passed v (Call.Bill q with book) e 12);
+  rebills = λ v q book e. let p = passed v (Call.Rebill q with book) e in taken v q book (p 3) (p 4) (p 5) (p 7) (p 8) (p 11);
+  rebill-found = λ v q book e. lt-yes 0 (v .held (named (q .contract) (q .first))) (not-no _ (passed v (Call.Rebill q with book) e 9));
+  rebill-free = λ v q book e.
+      let h = lt-no 0 (v .held (λ b. sharing (q .contract) (q .first) (q .last) b && not (named (q .contract) (q .first) b))) (passed v (Call.Rebill q with book) e 10) in
+      omega arith;
+  certs = certs;
+  cancel-found = λ v c first book e. lt-yes 0 (v .held (named c first)) (not-no _ (passed v (Call.Cancel c first with book) e 9));
+  claims = λ v book e. le-no mostClaims (v .claims) (passed v (Call.Claim with book) e 13);
+  totals = λ v book. refl;
+  days = λ k b e. span-days (b .first) (b .last) (bill-ranges k b e .span);
+  low = λ k b e. let r = bill-ranges k b e in amount-low k b (r .kwh) (r .supply);
+  any-cert = any-cert;
+  capped = λ k b e. amount-capped k b;
+}

@@ -1,0 +1,43 @@
+-- Demand 3 for document 01, written out: every history balances, with due the sum of kWh times rate over the standing bills. Assumes nothing.
+use mathlib.Core.Path.{_≡_}
+use mathlib.Core.List.{List, [], _∷_, _++_, List·Memᴰ}
+use Prim.Native.Nat.{ℕ, _*_, _<_, _≤_}
+use lib.IntN.{ℤ, pos, _+ℤ_, _*ℤ_}
+use Rattle.limits.specs.Limits.{ticksPerPenny}
+use Rattle.basics.specs.Lists.{total}
+use Rattle.basics.specs.Integers.{sumℤ}
+use Rattle.rates.specs.declared.Bill.{Bill}
+use Rattle.rates.specs.Rates.{rate, cap}
+use Rattle.model.specs.declared.Row.{Row}
+use Rattle.model.specs.declared.Answer.{Answer}
+use Rattle.model.specs.declared.Answer.the-variants.{Claimed, Totalled}
+use Rattle.model.specs.Contracts.{contractOf}
+use Rattle.model.specs.declared.Call.{Call}
+use Rattle.model.specs.Calls.{CallWithBook, customerAmount, claimPence, _with_}
+use Rattle.model.specs.PresentRules.{presentRules}
+use Rattle.model.specs.Sheet.{Sheet}
+use Rattle.model.specs.History.{Machine, sheetAfter, stateAfter, answersTo}
+
+-- due: the sum, over the standing bills, of kWh times the rate from the latest accepted facts
+unfoldable pub dueOf : Sheet → ℕ
+dueOf s = total (λ b. b .kwh * rate (contractOf (s .contracts) b) b) (s .bills)
+
+-- what is claimed of the sheet after a history, of the answers to its calls, of the answer to a total called next, and of the rows held
+pub record BalancedByRates (sheet : Sheet) (answered : List Answer) (next : Answer) (held : List Row) : Type 0 where
+  -- the customers' signed amounts add up to due
+  pub customers : sumℤ customerAmount answered ≡ pos (dueOf sheet)
+  -- a total called next answers due and an unclaimed amount
+  pub unclaimed : ℤ
+  pub total : next ≡ Totalled (dueOf sheet) unclaimed
+  -- 10,000 times the sum of the pence that the claims answered, plus the unclaimed amount, equals due
+  pub claims : pos ticksPerPenny *ℤ sumℤ claimPence answered +ℤ unclaimed ≡ pos (dueOf sheet)
+  -- if the last call is an accepted claim, the unclaimed amount is 0 to 9,999
+  pub claimed : (before : List Answer) (pence : ℤ) (rest : ℕ) → answered ≡ before ++ (Claimed pence rest ∷ []) → (u : ℕ) × (unclaimed ≡ pos u) × (u < ticksPerPenny)
+  -- for each standing bill the ledger holds kWh times rate as its amount, and that is at most kWh times its class's cap
+  pub rows : (b : Bill) → List·Memᴰ b (sheet .bills) → List·Memᴰ {A = Row} (record { bill = b; amount = b .kwh * rate (contractOf (sheet .contracts) b) b }) held
+  pub capped : (b : Bill) → List·Memᴰ b (sheet .bills) → b .kwh * rate (contractOf (sheet .contracts) b) b ≤ b .kwh * cap (contractOf (sheet .contracts) b) b
+
+-- demand 3, of a machine: from a fresh ledger of either territory, every list of calls
+abbrev pub EveryHistoryBalancesByRates : Machine → Type 0
+EveryHistoryBalancesByRates m = (territory : ℕ) → territory ≤ 1 → (h : List CallWithBook) →
+    BalancedByRates (sheetAfter presentRules territory h) (answersTo m territory h) (m .answer (stateAfter m territory h) (Call.Total with [])) (m .facts (stateAfter m territory h) .rows)

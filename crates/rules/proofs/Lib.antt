@@ -1,0 +1,4 @@
+-- Laws that the proofs of this crate share.
+pub mod Books
+pub mod Prices
+pub mod Tests

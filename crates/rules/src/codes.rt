@@ -1,0 +1,125 @@
+// The numbers that stand for a fuel, a kind with its days and a certificate.
+use rates::Certificate;
+use rates::Fuel;
+use rates::Kind;
+ghost use mathlib.Core.Path.{_≡_};
+ghost use Rattle.model.specs.Codes.{fuelOf, fuelCode, kindOf, kindCode, priceFixDay, entryDay, isFlexible, certificateOf, classCode, effectiveDay};
+
+pub fn fuel_of(code: u32) -> Fuel
+    ensures { λ r. ⌜ r ≡ fuelOf code ⌝ }
+{
+    if code == 0 {
+        Fuel::Electricity
+    } else {
+        Fuel::Gas
+    }
+}
+
+pub fn fuel_code(fuel: Fuel) -> u32
+    ensures { λ r. ⌜ r ≡ fuelCode fuel ⌝ }
+{
+    match fuel {
+        Fuel::Electricity => 0,
+        Fuel::Gas => 1,
+    }
+}
+
+pub fn kind_of(code: u32, price_fix_day: u32, entry_day: u32) -> Kind
+    ensures { λ r. ⌜ r ≡ kindOf code «price_fix_day» «entry_day» ⌝ }
+{
+    match code {
+        0 => Kind::Fixed {
+            price_fix_day,
+            entry_day,
+        },
+        1 => Kind::Variable,
+        2 => Kind::Flexible,
+        _ => Kind::Index,
+    }
+}
+
+pub fn kind_code(kind: Kind) -> u32
+    ensures { λ r. ⌜ r ≡ kindCode kind ⌝ }
+{
+    match kind {
+        Kind::Fixed {
+            price_fix_day: _,
+            entry_day: _,
+        } => 0,
+        Kind::Variable => 1,
+        Kind::Flexible => 2,
+        Kind::Index => 3,
+    }
+}
+
+pub fn price_fix_day(kind: Kind) -> u32
+    ensures { λ r. ⌜ r ≡ priceFixDay kind ⌝ }
+{
+    match kind {
+        Kind::Fixed {
+            price_fix_day,
+            entry_day: _,
+        } => price_fix_day,
+        Kind::Variable => 0,
+        Kind::Flexible => 0,
+        Kind::Index => 0,
+    }
+}
+
+pub fn entry_day(kind: Kind) -> u32
+    ensures { λ r. ⌜ r ≡ entryDay kind ⌝ }
+{
+    match kind {
+        Kind::Fixed {
+            price_fix_day: _,
+            entry_day,
+        } => entry_day,
+        Kind::Variable => 0,
+        Kind::Flexible => 0,
+        Kind::Index => 0,
+    }
+}
+
+pub fn is_flexible(kind: Kind) -> bool
+    ensures { λ r. ⌜ r ≡ isFlexible kind ⌝ }
+{
+    match kind {
+        Kind::Fixed {
+            price_fix_day: _,
+            entry_day: _,
+        } => false,
+        Kind::Variable => false,
+        Kind::Flexible => true,
+        Kind::Index => false,
+    }
+}
+
+pub fn certificate_of(class: u32, effective_day: u32) -> Certificate
+    ensures { λ r. ⌜ r ≡ certificateOf class «effective_day» ⌝ }
+{
+    match class {
+        1 => Certificate::Etii { effective_day },
+        2 => Certificate::Qhs { effective_day },
+        _ => Certificate::None,
+    }
+}
+
+pub fn class_code(certificate: Certificate) -> u32
+    ensures { λ r. ⌜ r ≡ classCode certificate ⌝ }
+{
+    match certificate {
+        Certificate::None => 0,
+        Certificate::Etii { effective_day: _ } => 1,
+        Certificate::Qhs { effective_day: _ } => 2,
+    }
+}
+
+pub fn effective_day(certificate: Certificate) -> u32
+    ensures { λ r. ⌜ r ≡ effectiveDay certificate ⌝ }
+{
+    match certificate {
+        Certificate::None => 0,
+        Certificate::Etii { effective_day } => effective_day,
+        Certificate::Qhs { effective_day } => effective_day,
+    }
+}

@@ -1,0 +1,156 @@
+// The ranges of document 01: the tests of what a call gives, and of what a well-formed ledger holds.
+use crate::book::no_price;
+use crate::codes;
+use limits::FIRST_QHS_DAY;
+use limits::FIRST_SCHEME_DAY;
+use limits::HIGHEST_PRICE;
+use limits::LAST_DAY;
+use limits::MOST_KWH_GIVEN;
+use limits::MOST_KWH_STORED;
+use model::Request;
+use rates::Bill;
+use rates::Contract;
+ghost use mathlib.Core.Path.{_≡_};
+ghost use Rattle.model.specs.PresentRules.{badKind, badClass, badDays, badEffective, badSpan, badAmounts, contractRanges, billOk};
+ghost use mathlib.Core.List.{[], _∷_};
+
+// A fuel or kind code has no meaning, or kind 3 is given outside its place.
+pub fn bad_kind(territory: u32, fuel: u32, kind: u32) -> bool
+    ensures { λ r. ⌜ r ≡ badKind territory fuel kind ⌝ }
+{
+    if 1 < fuel {
+        return true;
+    }
+    if 3 < kind {
+        return true;
+    }
+    if kind == 3 {
+        if fuel == 0 {
+            return territory != 1;
+        }
+        return true;
+    }
+    false
+}
+
+// A class code has no meaning.
+pub fn bad_class(class: u32) -> bool
+    ensures { λ r. ⌜ r ≡ badClass class ⌝ }
+{
+    2 < class
+}
+
+// A price-fix or entry day is after the last day, or not 0 where the kind is not fixed.
+pub fn bad_days(kind: u32, price_fix_day: u32, entry_day: u32) -> bool
+    ensures { λ r. ⌜ r ≡ badDays kind «price_fix_day» «entry_day» ⌝ }
+{
+    if LAST_DAY < price_fix_day {
+        return true;
+    }
+    if LAST_DAY < entry_day {
+        return true;
+    }
+    if kind == 0 {
+        return false;
+    }
+    if price_fix_day == 0 {
+        return entry_day != 0;
+    }
+    true
+}
+
+// An effective day is after the last day or before the first one of its class, or not 0 for class 0.
+pub fn bad_effective(class: u32, effective_day: u32) -> bool
+    ensures { λ r. ⌜ r ≡ badEffective class «effective_day» ⌝ }
+{
+    if class == 0 {
+        return effective_day != 0;
+    }
+    if LAST_DAY < effective_day {
+        return true;
+    }
+    if class == 2 {
+        return effective_day < FIRST_QHS_DAY;
+    }
+    effective_day < FIRST_SCHEME_DAY
+}
+
+// Not the scheme's first day ≤ first ≤ last ≤ the last day.
+pub fn bad_span(first: u32, last: u32) -> bool
+    ensures { λ r. ⌜ r ≡ badSpan first last ⌝ }
+{
+    if first < FIRST_SCHEME_DAY {
+        return true;
+    }
+    if last < first {
+        return true;
+    }
+    if LAST_DAY < last {
+        return true;
+    }
+    false
+}
+
+// kWh, S or WAP is out of range, or a WAP is not 0 where the contract is not flexible.
+pub fn bad_amounts(contract: Contract, request: Request) -> bool
+    ensures { λ r. ⌜ r ≡ badAmounts contract request ⌝ }
+{
+    if MOST_KWH_GIVEN < request.kwh {
+        return true;
+    }
+    if HIGHEST_PRICE < request.supply {
+        return true;
+    }
+    if HIGHEST_PRICE < request.wap {
+        return true;
+    }
+    let kind = contract.kind;
+    if codes::is_flexible(kind) {
+        return false;
+    }
+    request.wap != 0
+}
+
+// The numbers of an open contract keep the ranges.
+pub fn contract_ranges(
+    territory: u32,
+    fuel: u32,
+    kind: u32,
+    price_fix_day: u32,
+    entry_day: u32,
+    class: u32,
+    effective_day: u32,
+) -> bool
+    ensures { λ r. ⌜ r ≡ contractRanges territory (fuel ∷ kind ∷ «price_fix_day» ∷ «entry_day» ∷ class ∷ «effective_day» ∷ []) ⌝ }
+{
+    if bad_kind(territory, fuel, kind) {
+        return false;
+    }
+    if bad_days(kind, price_fix_day, entry_day) {
+        return false;
+    }
+    if bad_class(class) {
+        return false;
+    }
+    !bad_effective(class, effective_day)
+}
+
+// A held row's bill keeps the ranges under its contract.
+pub fn bill_ok(contract: Contract, bill: Bill) -> bool
+    ensures { λ r. ⌜ r ≡ billOk contract bill ⌝ }
+{
+    if bad_span(bill.first, bill.last) {
+        return false;
+    }
+    if MOST_KWH_STORED < bill.kwh {
+        return false;
+    }
+    if HIGHEST_PRICE < bill.supply {
+        return false;
+    }
+    if HIGHEST_PRICE < bill.reference {
+        return false;
+    }
+    let kind = contract.kind;
+    !no_price(kind, bill.reference)
+}
