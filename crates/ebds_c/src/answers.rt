@@ -1,4 +1,4 @@
-// What is told of an answer, as C gets it: its numbers, and the number of the refusal.
+// The reply of an answer, as C gets it: its numbers, and the number of the refusal.
 use calls::replies::reply_of;
 use model::ANSWER_NUMBERS;
 use model::Call;
@@ -6,13 +6,13 @@ use model::Reply;
 ghost use Rattle.model.specs.Calls.{_with_};
 ghost use Rattle.ebds_c.specs.Answers.{Given, Gives};
 
-// Gives what is told.
-pub fn give(told: Reply, answer: &mut [i64; ANSWER_NUMBERS]) -> u32
-    ensures { λ r. ⌜ Given told r (now (answer .exit)) ⌝ }
+// Gives a reply.
+pub fn give(reply: Reply, answer: &mut [i64; ANSWER_NUMBERS]) -> u32
+    ensures { λ r. ⌜ Given reply r (now (answer .exit)) ⌝ }
 {
-    let numbers = told.numbers;
+    let numbers = reply.numbers;
     *answer = numbers;
-    told.refused
+    reply.refused
 }
 
 // Makes a call of a history, and gives its answer.

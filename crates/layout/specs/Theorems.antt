@@ -1,4 +1,4 @@
--- What is established of the packed ledger of document 01. Assumes nothing.
+-- What is established of the packed ledger, by the rules and the layout in force. Assumes nothing.
 use mathlib.Core.Path.{_≡_}
 use mathlib.Core.List.{List}
 use mathlib.Core.Logic.{_↔_}

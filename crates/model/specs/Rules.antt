@@ -1,4 +1,4 @@
--- The rules by which a ledger and its sheet are kept. Document 01's are the value `presentRules`; the ledger, the sheet and the balance
+-- The rules by which a ledger and its sheet are kept. Those in force are the value `presentRules`; the ledger, the sheet and the balance
 -- are stated for any rules, so that a later paper is another value. Assumes nothing.
 use mathlib.Core.Bool.{Bool}
 use mathlib.Core.List.{List}
