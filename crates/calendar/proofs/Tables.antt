@@ -1,16 +1,17 @@
 -- A rule of a table at each of its places, from one test that antt computes over all entries.
-use Prim.Native.Nat.{ℕ, zero, suc, _<_}
-use mathlib.Core.Path.{_≡_}
+use Prim.Native.Nat.{ℕ, zero, suc, _+_, _<_}
+use mathlib.Core.Path.{_≡_, subst}
 use mathlib.Core.Bool.{Bool, true, _&&_, and-eq-true-iff}
 use mathlib.Core.List.{List, [], _∷_}
 use native.Mathlib.Nat.{le-of-suc-le-suc, not-suc-le-zero}
+use native.Mathlib.Omega.{arith}
 use lib.ListN.{length, getD}
 
 module _ {A : Type 0} where
-  -- whether each entry passes the test
-  abbrev pub every : (A → Bool) → List A → Bool
-  every test [] = true
-  every test (x ∷ xs) = test x && every test xs
+  -- whether each entry passes the test with its number, which for the first is n
+  abbrev pub every : (ℕ → A → Bool) → ℕ → List A → Bool
+  every test n [] = true
+  every test n (x ∷ xs) = test n x && every test (suc n) xs
 
   -- whether each entry passes the test with the entry after it
   abbrev pub adjacent : (A → A → Bool) → List A → Bool
@@ -19,15 +20,17 @@ module _ {A : Type 0} where
   adjacent test (x ∷ (y ∷ ys)) = test x y && adjacent test (y ∷ ys)
 
 module _ {A : Type 0} (none : A) where
-  -- such a test passes at each place, and past the end where it passes there
+  -- such a test passes at each place
   pub every-at :
-      (test : A → Bool) (xs : List A)
-      → every test xs ≡ true → test none ≡ true
-      → (i : ℕ) → test (getD xs i none) ≡ true
-  every-at test [] passed past i = past
-  every-at test (x ∷ xs) passed past zero = and-eq-true-iff (test x) (every test xs) .0 passed .0
-  every-at test (x ∷ xs) passed past (suc i) =
-      every-at test xs (and-eq-true-iff (test x) (every test xs) .0 passed .1) past i
+      (test : ℕ → A → Bool) (n : ℕ) (xs : List A)
+      → every test n xs ≡ true
+      → (i m : ℕ) → i < length xs → m ≡ n + i → test m (getD xs i none) ≡ true
+  every-at test n [] passed i m inside number = absurd (not-suc-le-zero inside)
+  every-at test n (x ∷ xs) passed zero m inside number =
+      subst (λ (k : ℕ). test k x ≡ true) (omega arith) (and-eq-true-iff (test n x) (every test (suc n) xs) .0 passed .0)
+  every-at test n (x ∷ xs) passed (suc i) m inside number =
+      every-at test (suc n) xs (and-eq-true-iff (test n x) (every test (suc n) xs) .0 passed .1)
+      i m (le-of-suc-le-suc inside) (omega arith)
 
   -- such a test passes from each place to the next
   pub adjacent-at :

@@ -12,8 +12,8 @@ ghost use Rattle.calendar.specs.Answers.{dayAnswer, dateAnswer};
 // The number that turns down a wrong day.
 const WRONG_DAY: u32 = 7;
 
-// April 2023, which is scheme month 0, in months counted from year 0.
-const FIRST_MONTH: u32 = 12 * 2023 + 4;
+// The first day of each scheme month after April 2023: 1 May 2023 to 1 March 2024.
+const LATER_MONTHS: [u32; 11] = [516, 547, 577, 608, 639, 669, 700, 730, 761, 792, 821];
 
 // A date of the calendar.
 pub struct CalendarDate {
@@ -93,10 +93,14 @@ pub fn scheme_month(day: u32) -> u32
     if DAY_COUNT <= day {
         return 0;
     }
-    let date = date_of(day);
-    let months = 12 * date.year + date.month;
-    if months < FIRST_MONTH {
-        return 0;
+    let starts = LATER_MONTHS;
+    let mut month: u32 = 0;
+    let mut i: usize = 0;
+    while i < starts.len() {
+        if starts[i] <= day {
+            month += 1;
+        }
+        i += 1;
     }
-    months - FIRST_MONTH
+    month
 }

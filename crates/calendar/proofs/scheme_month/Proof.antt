@@ -1,40 +1,56 @@
--- `scheme_month` meets its contract: the sum of months fits since the scheme month is at most 11, and past the table it is 0.
-use Prim.Native.Nat.{ℕ, _+_, _*_, _≤_}
-use mathlib.Core.Path.{_≡_, sym, ap}
+-- `scheme_month` meets its contract. The loop's invariant: the months found and those of the rest make up all that have begun.
+use Prim.Native.Nat.{_-_}
+use mathlib.Core.Path.{refl, sym, ap}
+use mathlib.Core.Logic.{⊎-elim}
 use native.Mathlib.Omega.{arith}
 use borrow.Author.Needs.{needs}
-use Rattle.calendar.specs.declared.CalendarDate.{CalendarDate}
-use Rattle.calendar.specs.Days.{dateOf, schemeMonth, schemeMonthOf}
+use lib.ListN.{length}
+use Rattle.calendar.specs.Days.{dates, schemeMonth, schemeMonthOf}
 use Rattle.calendar.proofs.Days.{past-table}
-use Rattle.calendar.proofs.SchemeMonths.{scheme-month-at-most-11}
+use Rattle.calendar.proofs.SchemeMonths.{begun, asBegun, Counting, none-counted, counted, not-counted, all-counted}
 use Rattle.calendar.proofs.scheme_month.Statement.{statement}
 use Rattle.calendar.proofs.scheme_month.Tie as tie
 
--- the months up to a date of the table, counted from year 0
-months-bounded :
-    (day : ℕ) {date : CalendarDate}
-    → date ≡ dateOf day → 12 * date .year + date .month ≤ 12 * 2023 + 15
-unfolding schemeMonth
-months-bounded day equal = omega (arith, ap schemeMonthOf equal, scheme-month-at-most-11 day)
+abbrev Inv-loop : tie.InvT-loop
+Inv-loop day starts month₀ i₀ month i = Counting day starts month i
 
-returns : tie.Need-returns
+abbrev μ-loop : tie.MeasureT-loop
+μ-loop day starts month₀ i₀ month i = length starts - i
+
+returns : tie.Need-returns Inv-loop μ-loop
 unfolding schemeMonth
 returns c = ap schemeMonthOf (sym (past-table (c .before .args .day) (c .if1 .taken)))
 
-mul-months : tie.Need-mul-months
-mul-months c = omega (arith, months-bounded _ (c .before .date-of .ensures))
+loop-holds : tie.Need-loop-holds Inv-loop μ-loop
+loop-holds c = search none-counted
 
-add-months : tie.Need-add-months
-add-months c = omega (arith, months-bounded _ (c .before .before .date-of .ensures))
+add-month : tie.Need-add-month Inv-loop μ-loop
+add-month c = omega (arith, c .before .before .loop .inv .few, c .before .before .loop .inv .within)
 
-returns-2 : tie.Need-returns-2
-unfolding schemeMonth
-returns-2 c = omega (arith, ap schemeMonthOf (c .before .before .before .date-of .ensures))
+loop-again : tie.Need-loop-again Inv-loop μ-loop
+loop-again c =
+    ⊎-elim
+    (λ w. counted (c .before .before .loop .inv) (c .before .loop-test .taken) (w .0 .taken) (w .1))
+    (λ w. not-counted (c .before .before .loop .inv) (c .before .loop-test .taken) (w .0 .left) (w .1))
+    (c .if2 .came)
 
-returns-3 : tie.Need-returns-3
-unfolding schemeMonth
-returns-3 c = ap schemeMonthOf (c .before .before .before .date-of .ensures)
+-- antt computes the test over the whole table with the code's own first days
+returns-2 : tie.Need-returns-2 Inv-loop μ-loop
+unfolding dates begun asBegun
+returns-2 c = all-counted (c .before .loop .inv) (c .loop-test .left) refl (c .before .before .if1 .left)
 
 pub scheme-month-spec : {M : Type 1} → statement M
 scheme-month-spec =
-    tie.close (tie.spec returns (λ c κs. search needs) mul-months add-months returns-2 returns-3)
+    tie.close
+    (tie.spec
+    Inv-loop
+    μ-loop
+    returns
+    loop-holds
+    (λ c. search needs)
+    (λ c. search needs)
+    add-month
+    (λ c. search needs)
+    (λ c. search needs)
+    loop-again
+    returns-2)
