@@ -2,8 +2,9 @@
 use mathlib.Core.Path.{_≡_, refl, ap}
 use mathlib.Core.Bool.{Bool, true, false, cond}
 use mathlib.Core.List.{List, [], _∷_, map}
-use Prim.Native.Nat.{ℕ, _+_, _*_, _≤_, zero-le}
-use lib.ListN.{length}
+use Prim.Native.Nat.{ℕ, zero, suc, _+_, _*_, _≤_, _<_, zero-le}
+use native.Mathlib.Nat.{not-suc-le-zero, le-of-suc-le-suc}
+use lib.ListN.{length, getD}
 use native.Mathlib.Omega.{arith}
 use Rattle.basics.specs.Lists.{All, total, count}
 
@@ -20,6 +21,11 @@ none-step true w v c m n e f = let z : ⊥ = omega arith in absurd z
 none-step false w v c m n e f = let h : m ≡ n = f (omega arith) in omega arith
 
 module _ {A : Type 0} where
+  pub all-at : (P : A → Type 0) (xs : List A) (d : A) → All P xs → (n : ℕ) → n < length xs → P (getD xs n d)
+  all-at P [] d a n h = absurd (not-suc-le-zero h)
+  all-at P (x ∷ xs) d a zero h = a .0
+  all-at P (x ∷ xs) d a (suc n) h = all-at P xs d (a .1) n (le-of-suc-le-suc h)
+
   pub all-map : (P Q : A → Type 0) → ((x : A) → P x → Q x) → (xs : List A) → All P xs → All Q xs
   all-map P Q f [] a = tt
   all-map P Q f (x ∷ xs) a = (f x (a .0), all-map P Q f xs (a .1))

@@ -24,7 +24,7 @@ use Rattle.model.specs.WellFormed.{RowOk}
 use Rattle.model.proofs.PresentRules.{bill-ranges}
 use Rattle.model.proofs.Places.{place-le, insert-at, remove-at, replace-at, amount-at}
 use Rattle.layout.specs.PresentLayout.{rowRecord}
-use Rattle.layout.specs.Offsets.{firstRow, rowLength, ledgerLength}
+use Rattle.layout.specs.Offsets.{ledgerLength, firstRow, rowStart, rowLength}
 use Rattle.layout.specs.Present.{Searched, rules, facts, contracts, bytes, rowAt, rowSlotAt}
 use Rattle.layout.proofs.PresentLayout.{row-fits}
 use Rattle.layout.proofs.Present.{present, formed-length, repacked}
@@ -71,13 +71,13 @@ module _ (b : List ℕ) (rows place : ℕ) (k : Contract) (x : Bill) (new : NewR
   pub insertable : Insertable b rows place (made x rated)
   insertable = record { long = searched-length b rows (new .searched); inside = place-inside; room = new .room; fits = made-fits (contracts b) k x (new .row) rated e }
 
-  pub row-added : (after : List ℕ) → after ≡ onPart firstRow (firstRow + (rows + 1) * rowLength) (insertAt (place * rowLength) (recordBytes rowRecord (made x rated))) b
+  pub row-added : (after : List ℕ) → after ≡ onPart firstRow (rowStart (rows + 1)) (insertAt (place * rowLength) (recordBytes rowRecord (made x rated))) b
       → Changed (Billed (x .reference) (rated .rate) (rated .amount)) after (billed k x) (rowAdded (facts b) k x)
   unfolding priced sortsAfter
   row-added after put = record {
     answered = ap (λ (y : Rated). Billed (x .reference) (y .rate) (y .amount)) e;
     left = inserted-row (facts b) b after (sym (repacked b (new .searched .formed))) rows place (priced rules k x) (sym (new .searched .count)) place-inside (new .room)
-        (put ∙ ap (λ (y : Row). onPart firstRow (firstRow + (rows + 1) * rowLength) (insertAt (place * rowLength) (recordBytes rowRecord y)) b) (is-priced (contracts b) k x (new .row) rated e))
+        (put ∙ ap (λ (y : Row). onPart firstRow (rowStart (rows + 1)) (insertAt (place * rowLength) (recordBytes rowRecord y)) b) (is-priced (contracts b) k x (new .row) rated e))
         ∙ ap (λ (xs : List Row). bytes (withRows (facts b) xs)) (rw (new .at) (sym (insert-at (priced rules k x) (facts b .rows))));
   }
 
@@ -103,7 +103,7 @@ module _ (b : List ℕ) (rows place c first : ℕ) (h : RowHeld b rows place c f
         ap (λ (y : Row). y .amount) (e ∙ row-held present b (h .searched .formed) place old inside)
         ∙ rw (h .at) (sym (amount-at (named c first) old (facts b .rows) (rw (h .at) at inside)))
 
-    pub row-removed : (after : List ℕ) (z : ℤ) → after ≡ onPart firstRow (firstRow + rows * rowLength) (removeAt (place * rowLength) rowLength) b → z ≡ subℕ 0 (old .amount)
+    pub row-removed : (after : List ℕ) (z : ℤ) → after ≡ onPart firstRow (rowStart rows) (removeAt (place * rowLength) rowLength) b → z ≡ subℕ 0 (old .amount)
         → Changed (Cancelled z) after (cancelled (facts b) c first) (rowRemoved (facts b) c first)
     row-removed after z put change = record {
       answered = ap (λ (y : ℤ). Cancelled y) (change ∙ ap (subℕ 0) old-amount);
@@ -117,7 +117,7 @@ module _ (b : List ℕ) (rows place : ℕ) (k : Contract) (x : Bill) (again : Ro
   pub replaceable : Replaceable b place (made x rated)
   replaceable = let n = held-needs b rows place _ _ (again .old) in record { long = n .0; inside = n .1; fits = made-fits (contracts b) k x (again .row) rated e }
 
-  pub row-replaced : (old : Row) → old ≡ rowAt b place → (after : List ℕ) (z : ℤ) → after ≡ replaceAt (firstRow + place * rowLength) (recordBytes rowRecord (made x rated)) b → z ≡ subℕ (rated .amount) (old .amount)
+  pub row-replaced : (old : Row) → old ≡ rowAt b place → (after : List ℕ) (z : ℤ) → after ≡ replaceAt (rowStart place) (recordBytes rowRecord (made x rated)) b → z ≡ subℕ (rated .amount) (old .amount)
       → Changed (Rebilled (x .reference) (rated .rate) z) after (rebilled (facts b) k x) (rowReplaced (facts b) k x)
   row-replaced old read after z put change =
       let was = old-amount b rows place _ _ (again .old) old read in
@@ -125,6 +125,6 @@ module _ (b : List ℕ) (rows place : ℕ) (k : Contract) (x : Bill) (again : Ro
       record {
         answered = ap₂ (λ (y : Rated) (n : ℤ). Rebilled (x .reference) (y .rate) n) e (change ∙ ap₂ subℕ (ap (λ (y : Rated). y .amount) e) was);
         left = replaced-row (facts b) b after (sym (repacked b (again .old .searched .formed))) place (priced rules k x) low (rows-most present b (again .old .searched .formed))
-            (put ∙ ap (λ (y : Row). replaceAt (firstRow + place * rowLength) (recordBytes rowRecord y) b) (is-priced (contracts b) k x (again .row) rated e))
+            (put ∙ ap (λ (y : Row). replaceAt (rowStart place) (recordBytes rowRecord y) b) (is-priced (contracts b) k x (again .row) rated e))
             ∙ ap (λ (xs : List Row). bytes (withRows (facts b) xs)) (rw (again .old .at) (sym (replace-at (named (x .contract) (x .first)) (priced rules k x) (facts b .rows))));
       }

@@ -1,6 +1,5 @@
 -- What the calls answer, and what the bytes that they write hold.
 pub mod StartAnswers
-pub mod FirstMapped
 pub mod RowsInSlots
 pub mod RowRerating
 pub mod RowsRerating

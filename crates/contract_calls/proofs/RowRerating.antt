@@ -2,24 +2,23 @@
 use mathlib.Core.Path.{_≡_, sym, ap, _∙_}
 use mathlib.Core.Bool.{not, cond}
 use mathlib.Core.List.{List}
-use Prim.Native.Nat.{ℕ, _+_, _*_, _^_, _<_}
+use Prim.Native.Nat.{ℕ, _^_, _<_}
 use native.Mathlib.Omega.{arith}
 use lib.Dec.{eqb}
-use lib.ListN.{take, drop}
 use Rattle.basics.proofs.Tests.{yes-eq, no-eq}
 use Rattle.records.specs.Edits.{replaceAt}
-use Rattle.records.specs.OneSlot.{slotAt, recordIn, recordBytes}
+use Rattle.records.specs.OneSlot.{recordBytes}
+use Rattle.records.proofs.Replaced.{replaced-same}
 use Rattle.rates.specs.declared.Contract.{Contract}
 use Rattle.rates.specs.Rates.{Rateable, amount}
 use Rattle.rates.proofs.WithinCaps.{amount-bits}
 use Rattle.model.specs.declared.Row.{Row}
 use Rattle.model.specs.Ledger.{withAmount, priced, rerated}
 use Rattle.layout.specs.PresentLayout.{rowRecord}
-use Rattle.layout.specs.Offsets.{firstRow, rowLength}
+use Rattle.layout.specs.Offsets.{rowStart, rowLength}
 use Rattle.layout.specs.Present.{rowAt, rules}
-use Rattle.layout.proofs.Lawful.{offsets}
+use Rattle.layout.proofs.Present.{row-in-slot}
 use Rattle.contract_calls.specs.Rerating.{RowInSlot, newAmount, RowRerated}
-use Rattle.contract_calls.proofs.RowsInSlots.{replaced-same}
 
 -- ---- a row of another contract is as it was, and one of the contract has its amount under the terms
 
@@ -52,17 +51,16 @@ module _ (b : List ℕ) (i : ℕ) (slot : RowInSlot b i) (x : Row) (read : x ≡
 
   module _ (contract : ℕ) (terms : Contract) where
     pub row-kept : (x .bill .contract ≡ contract → ⊥) → RowRerated contract terms b i (record { due = x .amount; changed = 0 }) b
-    unfolding Rattle.layout.specs.Check.rowAt slotAt offsets recordIn
     row-kept n =
         let same : rerated rules contract terms (rowAt b i) ≡ rowAt b i = other-row contract terms (rowAt b i) (rw read at n) in
         record {
           due = ap (λ (y : Row). y .amount) (read ∙ sym same);
           changed = unchanged _ _ (ap (λ (y : Row). y .amount) same);
-          left = sym (ap (λ (new : List ℕ). replaceAt (firstRow + i * rowLength) new b) (ap (recordBytes rowRecord) same ∙ slot .packed) ∙ replaced-same (firstRow + i * rowLength) rowLength b (omega (arith, slot .long, slot .inside)));
+          left = sym (ap (λ (new : List ℕ). replaceAt (rowStart i) new b) (ap (recordBytes rowRecord) (same ∙ row-in-slot b i) ∙ slot .packed) ∙ replaced-same (rowStart i) rowLength b (omega (arith, slot .long, slot .inside)));
         }
 
     module _ (own : x .bill .contract ≡ contract) (a : ℕ) (rated : a ≡ amount terms (x .bill)) (after : List ℕ)
-        (put : after ≡ replaceAt (firstRow + i * rowLength) (recordBytes rowRecord (withAmount (recordIn rowRecord (take rowLength (drop (firstRow + i * rowLength) b))) a)) b) where
+        (put : after ≡ replaceAt (rowStart i) (recordBytes rowRecord (withAmount (rowAt b i) a)) b) where
       new : rerated rules contract terms (rowAt b i) ≡ withAmount (rowAt b i) a
       new = own-row contract terms (rowAt b i) (rw read at own) ∙ ap (withAmount (rowAt b i)) (sym (rw read at rated))
 
@@ -72,9 +70,8 @@ module _ (b : List ℕ) (i : ℕ) (slot : RowInSlot b i) (x : Row) (read : x ≡
       is-old : x .amount ≡ rowAt b i .amount
       is-old = ap (λ (y : Row). y .amount) read
 
-      left : after ≡ replaceAt (firstRow + i * rowLength) (recordBytes rowRecord (rerated rules contract terms (rowAt b i))) b
-      unfolding Rattle.layout.specs.Check.rowAt slotAt offsets recordIn
-      left = put ∙ ap (λ (y : Row). replaceAt (firstRow + i * rowLength) (recordBytes rowRecord y) b) (sym new)
+      left : after ≡ replaceAt (rowStart i) (recordBytes rowRecord (rerated rules contract terms (rowAt b i))) b
+      left = put ∙ ap (λ (y : Row). replaceAt (rowStart i) (recordBytes rowRecord y) b) (sym new)
 
       pub row-same : a ≡ x .amount → RowRerated contract terms b i (record { due = a; changed = 0 }) after
       row-same e = record { due = is-new; changed = unchanged _ _ (sym is-new ∙ e ∙ is-old); left = left }

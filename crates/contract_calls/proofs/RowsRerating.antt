@@ -1,19 +1,20 @@
 -- The rows of a ledger re-rated one after the other. Assumes nothing.
 use mathlib.Core.Path.{_≡_, refl, sym, ap, ap₂, _∙_, subst}
 use mathlib.Core.Bool.{cond}
-use mathlib.Core.List.{List, [], _∷_}
-use Prim.Native.Nat.{ℕ, zero, suc, _+_, _*_, _^_, _<_, _≤_}
-use native.Mathlib.Nat.{not-suc-le-zero, le-of-suc-le-suc}
+use mathlib.Core.List.{List}
+use Prim.Native.Nat.{ℕ, _+_, _*_, _^_, _<_, _≤_}
 use native.Mathlib.Omega.{arith}
 use lib.Dec.{eqb}
-use lib.ListN.{length, take, drop, getD}
+use lib.ListN.{length, take, drop}
 use lib.Seq.{drop-drop}
 use Rattle.limits.specs.Limits.{rowCount}
-use Rattle.basics.specs.Lists.{All, total}
+use Rattle.basics.specs.Lists.{total}
 use Rattle.basics.proofs.Tests.{either, eq-yes, eq-no}
-use Rattle.basics.proofs.Lists.{total-map}
+use Rattle.basics.proofs.Lists.{all-at, total-map}
+use Rattle.basics.proofs.FirstMapped.{firstMapped, first-all, length-first, first-next}
 use Rattle.records.specs.Edits.{replaceAt}
 use Rattle.records.specs.OneSlot.{recordBytes, IsPacked}
+use Rattle.records.proofs.Replaced.{replaced-rest, replaced-length}
 use Rattle.rates.specs.declared.Contract.{Contract}
 use Rattle.rates.specs.Rates.{Rateable}
 use Rattle.rates.proofs.WithinCaps.{highestAmount, amount-low}
@@ -24,7 +25,7 @@ use Rattle.model.specs.WellFormed.{RowOk}
 use Rattle.model.proofs.PresentRules.{bill-ranges}
 use Rattle.model.proofs.RowBounds as bounds
 use Rattle.layout.specs.PresentLayout.{rowRecord}
-use Rattle.layout.specs.Offsets.{ledgerLength, firstRow, rowLength}
+use Rattle.layout.specs.Offsets.{ledgerLength, rowStart, rowLength}
 use Rattle.layout.specs.Present.{rules, facts, bytes, rowAt, Searched}
 use Rattle.layout.proofs.Present.{present, formed-length, facts-kept, repacked}
 use Rattle.layout.proofs.HeldRows.{rows-most}
@@ -32,14 +33,8 @@ use Rattle.edits.proofs.PackedChanges.{length-row, replaced-row}
 use Rattle.ledger.proofs.EachRow.{row-inside, row-there, row-read, SummedTo, summed-none, summed-next, summed-most, summed-all}
 use Rattle.contract_calls.specs.declared.rerating.Rerated.{Rerated}
 use Rattle.contract_calls.specs.Rerating.{RowInSlot, newAmount, amountChanges, RowRerated, RowsRerated}
-use Rattle.contract_calls.proofs.FirstMapped.{firstMapped, first-all, length-first, first-next}
-use Rattle.contract_calls.proofs.RowsInSlots.{replaced-rest, replaced-length, same-row, row-packed}
+use Rattle.contract_calls.proofs.RowsInSlots.{same-row, row-packed}
 use Rattle.contract_calls.proofs.RowRerating.{other-row, own-row}
-
-all-at : {A : Type 0} (P : A → Type 0) (xs : List A) (d : A) → All P xs → (n : ℕ) → n < length xs → P (getD xs n d)
-all-at P [] d a n h = absurd (not-suc-le-zero h)
-all-at P (x ∷ xs) d a zero h = a .0
-all-at P (x ∷ xs) d a (suc n) h = all-at P xs d (a .1) n (le-of-suc-le-suc h)
 
 -- a row's amount under any terms is low enough for its sum
 new-amount-most : (contract : ℕ) (terms : Contract) (cs : Contracts) (x : Row) → RowOk rules cs x → newAmount contract terms x ≤ highestAmount
@@ -63,7 +58,7 @@ held-rateable b rows i s h =
 pub record Passed (b₀ : List ℕ) (contract : ℕ) (terms : Contract) (i : ℕ) (b : List ℕ) (due changed : ℕ) : Type 0 where
   pub long : length b ≡ ledgerLength
   pub left : b ≡ bytes (withRows (facts b₀) (firstMapped (rerated rules contract terms) i (facts b₀ .rows)))
-  pub rest : drop (firstRow + i * rowLength) b ≡ drop (firstRow + i * rowLength) b₀
+  pub rest : drop (rowStart i) b ≡ drop (rowStart i) b₀
   pub amounts : SummedTo (newAmount contract terms) (facts b₀ .rows) i due
   pub changes : SummedTo (λ x. cond (amountChanges contract terms x) 1 0) (facts b₀ .rows) i changed
 
@@ -99,11 +94,11 @@ module _ (b₀ : List ℕ) (rows contract : ℕ) (terms : Contract) (s : Searche
         pub row-passed : Passed b₀ contract terms (i + 1) after (due + r .due) (changed + r .changed)
         row-passed =
             let x : Row = rowAt b₀ i in
-            let at : ℕ = firstRow + i * rowLength in
+            let at : ℕ = rowStart i in
             let new : List ℕ = recordBytes rowRecord (f x) in
             let put : after ≡ replaceAt at new b = t .left ∙ ap (λ (y : Row). replaceAt at (recordBytes rowRecord (f y)) b) row in
             let inside : at + length new ≤ length b = omega (arith, length-row (f x), p .long, row-inside b₀ rows i s h) in
-            let next : firstRow + (i + 1) * rowLength ≡ at + length new = omega (arith, length-row (f x)) in
+            let next : rowStart (i + 1) ≡ at + length new = omega (arith, length-row (f x)) in
             let few = length-first f i xs in
             record {
               long = ap length put ∙ replaced-length at new b inside ∙ p .long;

@@ -3,9 +3,9 @@
 use mathlib.Core.Path.{_≡_}
 use mathlib.Core.Bool.{Bool, not, cond}
 use mathlib.Core.List.{List, [], map}
-use Prim.Native.Nat.{ℕ, _+_, _*_, _<_}
+use Prim.Native.Nat.{ℕ, _<_}
 use lib.Dec.{eqb}
-use lib.ListN.{length, take, drop}
+use lib.ListN.{length}
 use Rattle.limits.specs.Limits.{rowCount}
 use Rattle.basics.specs.Lists.{total, count}
 use Rattle.records.specs.Edits.{replaceAt}
@@ -18,7 +18,7 @@ use Rattle.model.specs.Calls.{_with_}
 use Rattle.model.specs.Rules.{refusal}
 use Rattle.model.specs.Ledger.{rerated, withRows}
 use Rattle.layout.specs.PresentLayout.{rowRecord}
-use Rattle.layout.specs.Offsets.{ledgerLength, firstRow, rowLength}
+use Rattle.layout.specs.Offsets.{ledgerLength, rowStart, rowPart}
 use Rattle.layout.specs.Present.{rules, facts, bytes, rowAt}
 use Rattle.ledger.specs.Answered.{viewOf, Summed}
 use Rattle.contract_calls.specs.declared.rerating.Rerated.{Rerated}
@@ -32,7 +32,7 @@ pub record Certifiable (b : List ℕ) (rows sum contract class effective : ℕ) 
 pub record RowInSlot (b : List ℕ) (i : ℕ) : Type 0 where
   pub long : length b ≡ ledgerLength
   pub inside : i < rowCount
-  pub packed : IsPacked rowRecord (take rowLength (drop (firstRow + i * rowLength) b))
+  pub packed : IsPacked rowRecord (rowPart b i)
   pub rateable : Rateable (rowAt b i .bill)
 
 module _ (contract : ℕ) (terms : Contract) where
@@ -48,7 +48,7 @@ module _ (contract : ℕ) (terms : Contract) where
   pub record RowRerated (b : List ℕ) (i : ℕ) (found : Rerated) (after : List ℕ) : Type 0 where
     pub due : found .due ≡ newAmount (rowAt b i)
     pub changed : found .changed ≡ cond (amountChanges (rowAt b i)) 1 0
-    pub left : after ≡ replaceAt (firstRow + i * rowLength) (recordBytes rowRecord (rerated rules contract terms (rowAt b i))) b
+    pub left : after ≡ replaceAt (rowStart i) (recordBytes rowRecord (rerated rules contract terms (rowAt b i))) b
 
   -- all rows: the sum of their new amounts, how many are others, and the bytes with all rows re-rated
   pub record RowsRerated (b : List ℕ) (found : Rerated) (after : List ℕ) : Type 0 where

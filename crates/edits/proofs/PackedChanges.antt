@@ -18,7 +18,7 @@ use Rattle.model.specs.Contracts.{putContract}
 use Rattle.model.specs.Ledger.{Ledger, fresh, withRows}
 use Rattle.layout.specs.Layout.{contractsFrom, rowsFrom, ledgerSize}
 use Rattle.layout.specs.PresentLayout.{contractRecord, rowRecord}
-use Rattle.layout.specs.Offsets.{ledgerLength, firstContract, contractLength, firstRow, rowLength}
+use Rattle.layout.specs.Offsets.{ledgerLength, firstContract, contractLength, firstRow, rowStart, rowLength}
 use Rattle.layout.proofs.Changes.{row-inserted, row-removed, row-replaced, contract-put, header-changed, fresh-bytes}
 use Rattle.records.specs.OneSlot.{recordBytes}
 use Rattle.layout.specs.Present.{rules, layout, bytes}
@@ -34,30 +34,30 @@ length-contract k = length-pack (whole contractRecord) (slotOut contractRecord (
 module _ (l : Ledger) (b d : List ℕ) (held : b ≡ bytes l) where
   -- after `insert_row`
   pub inserted-row : (rows i : ℕ) (row : Row) → length (l .rows) ≡ rows → i ≤ rows → rows < rowCount
-      → d ≡ onPart firstRow (firstRow + (rows + 1) * rowLength) (insertAt (i * rowLength) (recordBytes rowRecord row)) b
+      → d ≡ onPart firstRow (rowStart (rows + 1)) (insertAt (i * rowLength) (recordBytes rowRecord row)) b
       → d ≡ bytes (withRows l (inserted i row (l .rows)))
   unfolding recordBytes size rowsFrom contractsFrom
   inserted-row rows i row n h m e =
       let end : rows + 1 ≡ suc (length (l .rows)) = omega arith in
-      e ∙ ap₂ (λ (k : ℕ) (x : List ℕ). onPart firstRow (firstRow + k * rowLength) (insertAt (i * rowLength) (recordBytes rowRecord row)) x) end held
+      e ∙ ap₂ (λ (k : ℕ) (x : List ℕ). onPart firstRow (rowStart k) (insertAt (i * rowLength) (recordBytes rowRecord row)) x) end held
       ∙ sym (row-inserted rules layout refl l row i (omega arith) (omega arith))
 
   -- after `remove_row`
   pub removed-row : (rows i : ℕ) → length (l .rows) ≡ rows → i < rows → rows ≤ rowCount
-      → d ≡ onPart firstRow (firstRow + rows * rowLength) (removeAt (i * rowLength) rowLength) b
+      → d ≡ onPart firstRow (rowStart rows) (removeAt (i * rowLength) rowLength) b
       → d ≡ bytes (withRows l (removed i (l .rows)))
   unfolding size rowsFrom contractsFrom
   removed-row rows i n h m e =
-      e ∙ ap₂ (λ (k : ℕ) (x : List ℕ). onPart firstRow (firstRow + k * rowLength) (removeAt (i * rowLength) rowLength) x) (sym n) held
+      e ∙ ap₂ (λ (k : ℕ) (x : List ℕ). onPart firstRow (rowStart k) (removeAt (i * rowLength) rowLength) x) (sym n) held
       ∙ sym (row-removed rules layout refl l i (omega arith) (omega arith))
 
   -- after `replace_row`
   pub replaced-row : (i : ℕ) (row : Row) → i < length (l .rows) → length (l .rows) ≤ rowCount
-      → d ≡ replaceAt (firstRow + i * rowLength) (recordBytes rowRecord row) b
+      → d ≡ replaceAt (rowStart i) (recordBytes rowRecord row) b
       → d ≡ bytes (withRows l (set (l .rows) i row))
   unfolding recordBytes size rowsFrom contractsFrom
   replaced-row i row h m e =
-      e ∙ ap (replaceAt (firstRow + i * rowLength) (recordBytes rowRecord row)) held ∙ sym (row-replaced rules layout refl l row i h m)
+      e ∙ ap (replaceAt (rowStart i) (recordBytes rowRecord row)) held ∙ sym (row-replaced rules layout refl l row i h m)
 
   -- after `write_contract`
   pub written-contract : (c : ℕ) (k : Contract) → c < contractCount

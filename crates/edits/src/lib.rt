@@ -11,21 +11,21 @@ use model::Row;
 use rates::Contract;
 ghost use mathlib.Core.Path.{_≡_};
 ghost use Prim.Native.Nat.{_+_, _*_, _^_, _≤_, _<_};
-ghost use lib.ListN.{length, take, drop};
+ghost use lib.ListN.{length};
 ghost use Rattle.limits.specs.Limits.{contractCount, rowCount};
 ghost use Rattle.fields.specs.Fields.{Fit};
 ghost use Rattle.records.specs.Edits.{insertAt, removeAt, replaceAt, onPart};
 ghost use Rattle.model.specs.Ledger.{fresh, withAmount};
 ghost use Rattle.layout.specs.PresentLayout.{contractRecord, rowRecord};
-ghost use Rattle.layout.specs.Offsets.{ledgerLength, firstContract, contractLength, firstRow, rowLength};
-ghost use Rattle.records.specs.OneSlot.{recordIn, recordBytes, IsPacked};
-ghost use Rattle.layout.specs.Present.{bytes};
+ghost use Rattle.layout.specs.Offsets.{ledgerLength, firstContract, contractLength, firstRow, rowStart, rowPart, rowLength};
+ghost use Rattle.records.specs.OneSlot.{recordBytes, IsPacked};
+ghost use Rattle.layout.specs.Present.{bytes, rowAt};
 ghost use Rattle.edits.specs.RowEdits.{Insertable, Replaceable, Removable};
 
 // Of the `rows` held rows, those from row i on move up, and the row comes in at place i.
 pub fn insert_row(b: &mut [u8], rows: usize, i: usize, row: Row)
     requires { ⌜ Insertable (now b) rows i row ⌝ }
-    ensures { λ _. ⌜ now (b .exit) ≡ onPart firstRow (firstRow + (rows + 1) * rowLength) (insertAt (i * rowLength) (recordBytes rowRecord row)) (now (b .entry)) ⌝ }
+    ensures { λ _. ⌜ now (b .exit) ≡ onPart firstRow (rowStart (rows + 1)) (insertAt (i * rowLength) (recordBytes rowRecord row)) (now (b .entry)) ⌝ }
 {
     let mut slot = [0u8; ROW_LENGTH];
     pack_row(&mut slot, row);
@@ -36,7 +36,7 @@ pub fn insert_row(b: &mut [u8], rows: usize, i: usize, row: Row)
 // Of the `rows` held rows, row i goes, those after it move down, and the last slot is free.
 pub fn remove_row(b: &mut [u8], rows: usize, i: usize)
     requires { ⌜ Removable (now b) rows i ⌝ }
-    ensures { λ _. ⌜ now (b .exit) ≡ onPart firstRow (firstRow + rows * rowLength) (removeAt (i * rowLength) rowLength) (now (b .entry)) ⌝ }
+    ensures { λ _. ⌜ now (b .exit) ≡ onPart firstRow (rowStart rows) (removeAt (i * rowLength) rowLength) (now (b .entry)) ⌝ }
 {
     let end = FIRST_ROW + rows * ROW_LENGTH;
     records::remove(&mut b[FIRST_ROW..end], i * ROW_LENGTH, ROW_LENGTH);
@@ -45,7 +45,7 @@ pub fn remove_row(b: &mut [u8], rows: usize, i: usize)
 // Writes the row in the place of row i.
 pub fn replace_row(b: &mut [u8], i: usize, row: Row)
     requires { ⌜ Replaceable (now b) i row ⌝ }
-    ensures { λ _. ⌜ now (b .exit) ≡ replaceAt (firstRow + i * rowLength) (recordBytes rowRecord row) (now (b .entry)) ⌝ }
+    ensures { λ _. ⌜ now (b .exit) ≡ replaceAt (rowStart i) (recordBytes rowRecord row) (now (b .entry)) ⌝ }
 {
     let at = FIRST_ROW + i * ROW_LENGTH;
     pack_row(&mut b[at..at + ROW_LENGTH], row);
@@ -53,8 +53,8 @@ pub fn replace_row(b: &mut [u8], i: usize, row: Row)
 
 // Writes the amount of row i, which is held.
 pub fn replace_amount(b: &mut [u8], i: usize, amount: u64)
-    requires { ⌜ (length (now b) ≡ ledgerLength) × ((i < rowCount) × (IsPacked rowRecord (take rowLength (drop (firstRow + i * rowLength) (now b))) × (amount < 2 ^ 50))) ⌝ }
-    ensures { λ _. ⌜ now (b .exit) ≡ replaceAt (firstRow + i * rowLength) (recordBytes rowRecord (withAmount (recordIn rowRecord (take rowLength (drop (firstRow + i * rowLength) (now (b .entry))))) amount)) (now (b .entry)) ⌝ }
+    requires { ⌜ (length (now b) ≡ ledgerLength) × ((i < rowCount) × (IsPacked rowRecord (rowPart (now b) i) × (amount < 2 ^ 50))) ⌝ }
+    ensures { λ _. ⌜ now (b .exit) ≡ replaceAt (rowStart i) (recordBytes rowRecord (withAmount (rowAt (now (b .entry)) i) amount)) (now (b .entry)) ⌝ }
 {
     let start = FIRST_ROW + i * ROW_LENGTH;
     put_amount(&mut b[start..start + ROW_LENGTH], amount);

@@ -1,6 +1,8 @@
 -- Document 01, "The packed ledger, 18,760 bytes": how many bytes a contract and a row take, and where they begin and end, by their
 -- fields. Assumes nothing.
+use mathlib.Core.List.{List}
 use Prim.Native.Nat.{ℕ, _+_, _*_, _/_}
+use lib.ListN.{take, drop}
 use Rattle.limits.specs.Limits.{contractCount, rowCount}
 use Rattle.fields.specs.Fields.{sum}
 use Rattle.records.specs.Slots.{whole}
@@ -20,5 +22,12 @@ firstRow = firstContract + contractCount * contractLength
 abbrev pub rowLength : ℕ
 rowLength = sum (whole rowRecord) / 8
 
+-- where row slot i begins, and its bytes
+abbrev pub rowStart : ℕ → ℕ
+rowStart i = firstRow + i * rowLength
+
+abbrev pub rowPart : List ℕ → ℕ → List ℕ
+rowPart b i = take rowLength (drop (rowStart i) b)
+
 abbrev pub ledgerLength : ℕ
-ledgerLength = firstRow + rowCount * rowLength
+ledgerLength = rowStart rowCount

@@ -2,7 +2,7 @@
 use mathlib.Core.Path.{_≡_, sym, ap, _∙_}
 use mathlib.Core.Bool.{Bool, true, false, not}
 use mathlib.Core.List.{List}
-use Prim.Native.Nat.{ℕ, _+_, _-_, _*_, _<_}
+use Prim.Native.Nat.{ℕ, _+_, _-_, _<_}
 use lib.Dec.{eqb}
 use lib.ListN.{length, take, drop, getD}
 use Rattle.limits.specs.Limits.{contractCount}
@@ -17,7 +17,7 @@ use Rattle.model.specs.PresentRules.{billOk}
 use Rattle.model.proofs.PresentRules.{bill-ranges}
 use Rattle.layout.specs.Layout.{rowOk}
 use Rattle.layout.specs.PresentLayout.{rowRecord}
-use Rattle.layout.specs.Offsets.{firstRow, rowLength, ledgerLength}
+use Rattle.layout.specs.Offsets.{ledgerLength, rowStart, rowLength}
 use Rattle.layout.specs.declared.RowCheck.{RowCheck}
 use Rattle.layout.specs.declared.RowCheck.the-variants.{Free}
 use Rattle.layout.specs.Check.{rowSlotAt, heldCheckOf, rowCheckOf}
@@ -60,7 +60,7 @@ module _ (b : List ℕ) (i least : ℕ) where
 
   -- the slot as it is lent
   abbrev at : ℕ
-  at = firstRow + i * rowLength
+  at = rowStart i
 
   abbrev lent : List ℕ
   lent = take (at + rowLength - at) (drop at b)

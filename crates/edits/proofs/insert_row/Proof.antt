@@ -7,7 +7,7 @@ use borrow.Rule.Slice.PartMut.{midOf}
 use Rattle.records.specs.Edits.{insertAt}
 use Rattle.records.proofs.Edits.{part-lent}
 use Rattle.layout.specs.PresentLayout.{rowRecord}
-use Rattle.layout.specs.Offsets.{firstRow, rowLength}
+use Rattle.layout.specs.Offsets.{firstRow, rowStart, rowLength}
 use Rattle.records.specs.OneSlot.{recordBytes}
 use borrow.Author.Needs.{needs}
 use Rattle.edits.proofs.insert_row.Statement.{statement}
@@ -19,7 +19,7 @@ returns c =
     let at-pack = at-insert .before .before .before .before in
     let start = at-pack .before .before .before in
     let a = start .args in
-    let end : ℕ = firstRow + (a .rows + 1) * rowLength in
+    let end : ℕ = rowStart (a .rows + 1) in
     part-lent firstRow end (insertAt (a .i * rowLength) (recordBytes rowRecord (a .row))) (a .b .now) (at-insert .insert .last .0) (omega arith)
     (at-insert .insert .ensures ∙ ap (λ (x : List ℕ). insertAt (a .i * rowLength) x (midOf firstRow (end - firstRow) (a .b .now))) (at-pack .pack-row .ensures))
 

@@ -1,15 +1,17 @@
 -- `replace_amount` writes the amount in the slot of row i.
-use mathlib.Core.Path.{_≡_, ap, _∙_}
+use mathlib.Core.Path.{_≡_, sym, ap, _∙_}
 use mathlib.Core.List.{List}
-use Prim.Native.Nat.{ℕ, _+_, _-_, _*_}
+use Prim.Native.Nat.{ℕ, _+_, _-_}
 use native.Mathlib.Omega.{arith}
 use lib.ListN.{take, drop, length-drop}
 use lib.Seq.{length-take-le}
 use Rattle.model.specs.declared.Row.{Row}
 use Rattle.model.specs.Ledger.{withAmount}
 use Rattle.layout.specs.PresentLayout.{rowRecord}
-use Rattle.layout.specs.Offsets.{firstRow, rowLength}
+use Rattle.layout.specs.Offsets.{rowStart, rowLength}
 use Rattle.records.specs.OneSlot.{recordIn, recordBytes}
+use Rattle.layout.specs.Present.{rowAt}
+use Rattle.layout.proofs.Present.{row-in-slot}
 use Rattle.edits.proofs.Parts.{part-written}
 use Rattle.edits.proofs.PackedChanges.{length-row}
 use borrow.Author.Needs.{needs}
@@ -20,7 +22,7 @@ put-amount-requires : tie.Need-put-amount-requires
 put-amount-requires c κs =
     let start = c .before .before in
     let b = start .args .b .now in
-    let at = firstRow + start .args .i * rowLength in
+    let at = rowStart (start .args .i) in
     let lent : at + rowLength - at ≡ rowLength = omega arith in
     rw lent (length-take-le rowLength (drop at b) (omega (arith, start .pre .0, length-drop at b)), start .pre .1 .1)
 
@@ -29,11 +31,11 @@ returns c =
     let at-put = c .before .before in
     let a = at-put .before .before .before .args in
     let b = a .b .now in
-    let at = firstRow + a .i * rowLength in
+    let at = rowStart (a .i) in
     let lent : at + rowLength - at ≡ rowLength = omega arith in
-    let row : List ℕ → Row = λ s. withAmount (recordIn rowRecord s) (a .amount) in
-    part-written at rowLength (recordBytes rowRecord (row (take rowLength (drop at b)))) b (at-put .put-amount .last .0) (length-row (row (take rowLength (drop at b))))
-    (at-put .put-amount .ensures ∙ ap (λ (n : ℕ). recordBytes rowRecord (row (take n (drop at b)))) lent)
+    let slot : Row → List ℕ = λ x. recordBytes rowRecord (withAmount x (a .amount)) in
+    part-written at rowLength (slot (rowAt b (a .i))) b (at-put .put-amount .last .0) (length-row (withAmount (rowAt b (a .i)) (a .amount)))
+    (at-put .put-amount .ensures ∙ ap (λ (n : ℕ). slot (recordIn rowRecord (take n (drop at b)))) lent ∙ ap slot (sym (row-in-slot b (a .i))))
 
 pub replace-amount-spec : {M : Type 1} → statement M
 replace-amount-spec =

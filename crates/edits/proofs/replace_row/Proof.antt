@@ -1,7 +1,6 @@
 -- `replace_row` packs the row into the slot of row i.
-use Prim.Native.Nat.{_+_, _*_}
 use Rattle.layout.specs.PresentLayout.{rowRecord}
-use Rattle.layout.specs.Offsets.{firstRow, rowLength}
+use Rattle.layout.specs.Offsets.{rowStart, rowLength}
 use Rattle.records.specs.OneSlot.{recordBytes}
 use Rattle.edits.proofs.Parts.{part-written}
 use Rattle.edits.proofs.PackedChanges.{length-row}
@@ -13,7 +12,7 @@ returns : tie.Need-returns
 returns c =
     let at-pack = c .before .before in
     let a = at-pack .before .before .before .args in
-    part-written (firstRow + a .i * rowLength) rowLength (recordBytes rowRecord (a .row)) (a .b .now) (at-pack .pack-row .last .0) (length-row (a .row)) (at-pack .pack-row .ensures)
+    part-written (rowStart (a .i)) rowLength (recordBytes rowRecord (a .row)) (a .b .now) (at-pack .pack-row .last .0) (length-row (a .row)) (at-pack .pack-row .ensures)
 
 pub replace-row-spec : {M : Type 1} → statement M
 replace-row-spec =
