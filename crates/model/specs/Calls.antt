@@ -71,10 +71,6 @@ replyOf a = replyOfValues (refusalNumber a) (valuesOf a)
 abbrev pub replyWithoutNumbers : ℕ → Reply
 replyWithoutNumbers n = replyOfValues n []
 
--- the values that are given of an answer: a refusal gives zeros
-abbrev pub answerValues : Answer → List ℤ
-answerValues a = replyOf a .numbers
-
 -- the customer's signed amount: the amount of bill, and the differences of rebill, cert and cancel, zero where refused
 abbrev pub customerAmount : Answer → ℤ
 customerAmount (Refused n) = pos 0
