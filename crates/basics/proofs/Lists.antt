@@ -1,4 +1,4 @@
--- Sums over lists. Assumes nothing.
+-- What holds of each element of a list, and sums over lists. Assumes nothing.
 use mathlib.Core.Path.{_≡_, refl, ap}
 use mathlib.Core.Bool.{Bool, true, false, cond}
 use mathlib.Core.List.{List, [], _∷_, map}

@@ -8,7 +8,7 @@ use bill_refusals::place_again;
 use bill_refusals::requested_bill;
 use ledger::contracts::refused_contract;
 use ledger::rows::RowTest;
-use ledger::rows::first_row;
+use ledger::rows::find_row;
 use model::Answer;
 use model::Request;
 use rows::add_row;
@@ -65,7 +65,7 @@ pub fn cancel(ledger: &mut [u8], rows: usize, contract: u32, first: u32) -> Answ
         return Answer::Refused(refused);
     }
     let row = RowTest::Named { contract, first };
-    let place = first_row(ledger, rows, row);
+    let place = find_row(ledger, rows, row);
     if rows <= place {
         return Answer::Refused(9);
     }

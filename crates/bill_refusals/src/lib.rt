@@ -2,7 +2,7 @@
 use ledger::contracts::contract_at;
 use ledger::contracts::refused_contract;
 use ledger::rows::RowTest;
-use ledger::rows::first_row;
+use ledger::rows::find_row;
 use limits::ROW_COUNT;
 use model::Request;
 use rates::Bill;
@@ -59,7 +59,7 @@ fn any_row(b: &[u8], rows: usize, test: RowTest) -> bool
     requires { ⌜ Searched (now b) rows ⌝ }
     ensures { λ r. ⌜ r ≡ ltb 0 (viewOf (now (b .entry)) .held (rowPasses test)) ⌝ }
 {
-    first_row(b, rows, test) < rows
+    find_row(b, rows, test) < rows
 }
 
 // Refusals 10 to 12 of a bill, or the place of its row: before the first that sorts after it.
@@ -86,7 +86,7 @@ pub fn new_place(b: &[u8], rows: usize, contract: Contract, bill: Bill) -> Place
         contract: bill.contract,
         first: bill.first,
     };
-    Placed::At(first_row(b, rows, after))
+    Placed::At(find_row(b, rows, after))
 }
 
 // Refusals 9 to 11 of a rebill, or the place of the row with its contract and first day.
@@ -98,7 +98,7 @@ pub fn place_again(b: &[u8], rows: usize, contract: Contract, bill: Bill) -> Pla
         contract: bill.contract,
         first: bill.first,
     };
-    let place = first_row(b, rows, row);
+    let place = find_row(b, rows, row);
     if rows <= place {
         return Placed::Refused(9);
     }

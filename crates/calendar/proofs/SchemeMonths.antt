@@ -14,7 +14,7 @@ use Rattle.basics.proofs.Tests.{eq-yes}
 use Rattle.calendar.specs.declared.CalendarDate.{CalendarDate}
 use Rattle.calendar.specs.Days.{dates, dateOf, noDate, schemeMonth, schemeMonthOf}
 use Rattle.calendar.proofs.Days.{day-count}
-use Rattle.calendar.proofs.Tables.{every, every-at}
+use Rattle.calendar.proofs.Tables.{each, each-at}
 
 -- how many of these days have come by a day
 unfoldable pub begun : ℕ → List ℕ → ℕ
@@ -26,11 +26,11 @@ asBegun starts day date = eqb (begun day starts) (schemeMonthOf date)
 
 -- so it is on each day of the table, from the test over the whole table
 month-begun :
-    (starts : List ℕ) → every (asBegun starts) 0 dates ≡ true
+    (starts : List ℕ) → each (asBegun starts) 0 dates ≡ true
     → (day : ℕ) → day < dayCount → begun day starts ≡ schemeMonth day
 unfolding dateOf schemeMonth asBegun
 month-begun starts passed day inside =
-    eq-yes _ _ (every-at noDate (asBegun starts) 0 dates passed day day (omega (arith, day-count)) (omega arith))
+    eq-yes _ _ (each-at noDate (asBegun starts) 0 dates passed day day (omega (arith, day-count)) (omega arith))
 
 -- the count up to place i: what it found and what the rest has make up what all starts have
 pub record Counting (day : ℕ) (starts : List ℕ) (month i : ℕ) : Type 0 where
@@ -63,7 +63,7 @@ module _ {day : ℕ} {starts : List ℕ} {month i : ℕ} (so : Counting day star
   not-counted inside late e = counts inside false (lt-leb _ _ late) (omega (arith, e)) (omega (arith, so .few))
 
   -- at the end nothing is left to count, and the month is the day's where that passes the test over the whole table
-  pub all-counted : length starts ≤ i → every (asBegun starts) 0 dates ≡ true → day < dayCount → month ≡ schemeMonth day
+  pub all-counted : length starts ≤ i → each (asBegun starts) 0 dates ≡ true → day < dayCount → month ≡ schemeMonth day
   unfolding begun
   all-counted done passed inside =
       omega (arith, so .all, ap (begun day) (drop-of-length-le starts done), month-begun starts passed day inside)

@@ -9,9 +9,9 @@ use lib.ListN.{length, getD}
 
 module _ {A : Type 0} where
   -- whether each entry passes the test with its number, which for the first is n
-  abbrev pub every : (ℕ → A → Bool) → ℕ → List A → Bool
-  every test n [] = true
-  every test n (x ∷ xs) = test n x && every test (suc n) xs
+  abbrev pub each : (ℕ → A → Bool) → ℕ → List A → Bool
+  each test n [] = true
+  each test n (x ∷ xs) = test n x && each test (suc n) xs
 
   -- whether each entry passes the test with the entry after it
   abbrev pub adjacent : (A → A → Bool) → List A → Bool
@@ -21,15 +21,15 @@ module _ {A : Type 0} where
 
 module _ {A : Type 0} (none : A) where
   -- such a test passes at each place
-  pub every-at :
+  pub each-at :
       (test : ℕ → A → Bool) (n : ℕ) (xs : List A)
-      → every test n xs ≡ true
+      → each test n xs ≡ true
       → (i m : ℕ) → i < length xs → m ≡ n + i → test m (getD xs i none) ≡ true
-  every-at test n [] passed i m inside number = absurd (not-suc-le-zero inside)
-  every-at test n (x ∷ xs) passed zero m inside number =
-      subst (λ (k : ℕ). test k x ≡ true) (omega arith) (and-eq-true-iff (test n x) (every test (suc n) xs) .0 passed .0)
-  every-at test n (x ∷ xs) passed (suc i) m inside number =
-      every-at test (suc n) xs (and-eq-true-iff (test n x) (every test (suc n) xs) .0 passed .1)
+  each-at test n [] passed i m inside number = absurd (not-suc-le-zero inside)
+  each-at test n (x ∷ xs) passed zero m inside number =
+      subst (λ (k : ℕ). test k x ≡ true) (omega arith) (and-eq-true-iff (test n x) (each test (suc n) xs) .0 passed .0)
+  each-at test n (x ∷ xs) passed (suc i) m inside number =
+      each-at test (suc n) xs (and-eq-true-iff (test n x) (each test (suc n) xs) .0 passed .1)
       i m (le-of-suc-le-suc inside) (omega arith)
 
   -- such a test passes from each place to the next

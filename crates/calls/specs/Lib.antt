@@ -1,2 +1,2 @@
--- The reply of an answer, and the answers whose numbers fit.
+-- The answers whose numbers fit, the replies of day and date, and what `perform` owes.
 pub mod Replies

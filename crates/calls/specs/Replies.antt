@@ -1,4 +1,4 @@
--- The answers whose numbers fit 64 bits with a sign, as all answers of the ledger's calls do, and the replies of day and date. Assumes nothing.
+-- The answers whose numbers fit 64 bits with a sign, as all answers of the ledger's calls do, the replies of day and date, and what `perform` owes. Assumes nothing.
 use mathlib.Core.Path.{_≡_}
 use mathlib.Core.List.{List, [], _∷_}
 use Prim.Native.Nat.{ℕ, _<_, _^_}

@@ -1,4 +1,4 @@
--- `Laws` has the laws of fields, for this crate and those that link it. `Bits` has rows of bits, `Words` what `src/word.rt` computes,
+-- `Laws` has the laws of fields, for this crate and those that link it. `Bits` has rows of bits, `Windows` fields by the bytes that hold them, `Words` what `src/word.rt` computes,
 -- `Vectors` worked examples.
 mod Bits
 pub mod Laws

@@ -19,8 +19,8 @@ ghost use lib.ListN.{length};
 ghost use Rattle.limits.specs.Limits.{contractCount, rowCount, dayValues};
 ghost use Rattle.layout.specs.Layout.{rowOk};
 ghost use Rattle.layout.specs.Offsets.{firstContract, ledgerLength};
-ghost use Rattle.layout.specs.Check.{checkedOf, headerOk, contractsOk, rowSlotAt, heldCheckOf, rowCheckOf, rowsCheckedOf};
-ghost use Rattle.layout.specs.Present.{rules, layout, contracts};
+ghost use Rattle.layout.specs.Check.{headerOk, contractsOk, heldCheckOf, rowCheckOf, rowsCheckedOf};
+ghost use Rattle.layout.specs.Present.{rules, layout, contracts, checkedOf, rowSlotAt};
 ghost use Rattle.ledger.specs.Rows.{RowRead};
 
 // Claims at most 1,000, and no pence where no claim was made.
@@ -104,7 +104,7 @@ fn check_held(b: &[u8], row: Row, least: u32) -> RowCheck
 // The check of row slot i.
 fn check_row(b: &[u8], i: usize, least: u32) -> RowCheck
     requires { ⌜ (length (now b) ≡ ledgerLength) × (i < rowCount) ⌝ }
-    ensures { λ r. ⌜ r ≡ rowCheckOf rules layout (contracts (now (b .entry))) least (rowSlotAt rules layout (now (b .entry)) i) ⌝ }
+    ensures { λ r. ⌜ r ≡ rowCheckOf rules layout (contracts (now (b .entry))) least (rowSlotAt (now (b .entry)) i) ⌝ }
 {
     let at = FIRST_ROW + i * ROW_LENGTH;
     let slot = &b[at..at + ROW_LENGTH];
@@ -153,7 +153,7 @@ fn check_rows(b: &[u8]) -> Checked
 
 // Whether bytes are a well-formed ledger, with the number of its rows and the sum of their amounts.
 pub fn check(b: &[u8]) -> Checked
-    ensures { λ r. ⌜ r ≡ checkedOf rules layout (now (b .entry)) ⌝ }
+    ensures { λ r. ⌜ r ≡ checkedOf (now (b .entry)) ⌝ }
 {
     if b.len() != LEDGER_LENGTH {
         return Checked::Malformed;

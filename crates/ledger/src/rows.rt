@@ -10,8 +10,7 @@ ghost use lib.ListN.{length};
 ghost use Rattle.limits.specs.Limits.{rowCount};
 ghost use Rattle.model.specs.Places.{placeOf};
 ghost use Rattle.layout.specs.Offsets.{ledgerLength};
-ghost use Rattle.layout.specs.Check.{rowAt, Searched};
-ghost use Rattle.layout.specs.Present.{rules, layout, facts};
+ghost use Rattle.layout.specs.Present.{facts, rowAt, Searched};
 ghost use Rattle.ledger.specs.Rows.{rowPasses};
 
 // A test of rows.
@@ -104,15 +103,15 @@ fn passes(test: RowTest, bill: Bill) -> bool
 // The row in slot i.
 pub fn row_at(b: &[u8], i: usize) -> Row
     requires { ⌜ (length (now b) ≡ ledgerLength) × (i < rowCount) ⌝ }
-    ensures { λ r. ⌜ r ≡ rowAt rules layout (now (b .entry)) i ⌝ }
+    ensures { λ r. ⌜ r ≡ rowAt (now (b .entry)) i ⌝ }
 {
     let at = FIRST_ROW + i * ROW_LENGTH;
     codec::rows::unpack_row(&b[at..at + ROW_LENGTH])
 }
 
 // The place of the first held row that passes the test, or the number of rows where none does.
-pub fn first_row(b: &[u8], rows: usize, test: RowTest) -> usize
-    requires { ⌜ Searched rules layout (now b) rows ⌝ }
+pub fn find_row(b: &[u8], rows: usize, test: RowTest) -> usize
+    requires { ⌜ Searched (now b) rows ⌝ }
     ensures { λ r. ⌜ r ≡ placeOf (rowPasses test) (facts (now (b .entry)) .rows) ⌝ }
 {
     let mut i: usize = 0;

@@ -148,7 +148,6 @@ present-rules-laws = record {
       let h = lt-no 0 (v .held (λ b. sharing (q .contract) (q .first) (q .last) b && not (named (q .contract) (q .first) b))) (passed v (Call.Rebill q with book) e 10) in
       omega arith;
   certs = certs;
-  cancel-found = λ v c first book e. lt-yes 0 (v .held (named c first)) (not-no _ (passed v (Call.Cancel c first with book) e 9));
   claims = λ v book e. le-no mostClaims (v .claims) (passed v (Call.Claim with book) e 13);
   totals = λ v book. refl;
   days = λ k b e. span-days (b .first) (b .last) (bill-ranges k b e .span);

@@ -39,7 +39,6 @@ pub record RulesLaws (R : Rules) : Type 0 where
   pub rebill-found : (v : View) (b : Request) (book : List ℕ) → refusal R v (Call.Rebill b with book) ≡ 0 → 0 < v .held (named (b .contract) (b .first))
   pub rebill-free : (v : View) (b : Request) (book : List ℕ) → refusal R v (Call.Rebill b with book) ≡ 0 → v .held (λ x. sharing (b .contract) (b .first) (b .last) x && not (named (b .contract) (b .first) x)) ≡ 0
   pub certs : (v : View) (c class effective : ℕ) (book : List ℕ) → refusal R v (Call.Cert c class effective with book) ≡ 0 → Certified R v c class effective
-  pub cancel-found : (v : View) (c first : ℕ) (book : List ℕ) → refusal R v (Call.Cancel c first with book) ≡ 0 → 0 < v .held (named c first)
   pub claims : (v : View) (book : List ℕ) → refusal R v (Call.Claim with book) ≡ 0 → v .claims < mostClaims
   pub totals : (v : View) (book : List ℕ) → refusal R v (Call.Total with book) ≡ 0
   -- ranges: of days, of amounts, and whatever the certificate

@@ -44,8 +44,8 @@ unfoldable pub ireland : Sheet
 ireland = sheetWith 1 (standing 0 500 510 ∷ standing 0 600 610 ∷ []) 0
 
 -- so many rows held; the test reads no more of them
-unfoldable pub holding : ℕ → Sheet
-holding n = sheetWith 0 (replicate n (standing 1 486 486)) 0
+unfoldable pub standingBills : ℕ → Sheet
+standingBills n = sheetWith 0 (replicate n (standing 1 486 486)) 0
 
 -- so many claims made
 unfoldable pub claiming : ℕ → Sheet
@@ -145,7 +145,7 @@ atNumber11 =
 
 -- 12: 1,024 rows are held already
 unfoldable pub atNumber12 : List Boundary
-atNumber12 = (Call.Bill (requestOf 0 486 499 1 1 1) with zeroBook on holding 1024 gives 12) ∷ (Call.Bill (requestOf 0 486 499 1 1 1) with zeroBook on holding 1023 gives 0) ∷ []
+atNumber12 = (Call.Bill (requestOf 0 486 499 1 1 1) with zeroBook on standingBills 1024 gives 12) ∷ (Call.Bill (requestOf 0 486 499 1 1 1) with zeroBook on standingBills 1023 gives 0) ∷ []
 
 -- 13: 1,000 claims were made already
 unfoldable pub atNumber13 : List Boundary
@@ -161,8 +161,8 @@ inCheckingOrder =
     ∷ (Call.Bill (requestOf 0 485 499 100000001 1 1) with zeroBook on britain gives 7)
     ∷ (Call.Rebill (requestOf 0 501 501 100000001 1 1) with zeroBook on britain gives 8)
     ∷ (Call.Rebill (requestOf 0 501 501 1 1 1) with zeroBook on britain gives 9)
-    ∷ (Call.Bill (requestOf 1 486 486 1 1 0) with zeroBook on holding 1 gives 10)
-    ∷ (Call.Bill (requestOf 1 487 487 1 1 0) with zeroBook on holding 1024 gives 11)
+    ∷ (Call.Bill (requestOf 1 486 486 1 1 0) with zeroBook on standingBills 1 gives 10)
+    ∷ (Call.Bill (requestOf 1 487 487 1 1 0) with zeroBook on standingBills 1024 gives 11)
     ∷ []
 
 -- the number that turns the call down is the one given

@@ -54,13 +54,13 @@ unfoldable pub qhsClass : Kind → (first : ℕ) → Class
 qhsClass kind first = cond (leb newMinimumDay first && not (enteredEarly kind)) QhsNew QhsOld
 
 -- a bill's class: a certificate applies to bills whose first day is on or after the effective day; earlier bills are baseline
-abbrev pub certified : Certificate → Kind → (first : ℕ) → Class
-certified None kind first = Baseline
-certified (certificate.Etii effective) kind first = cond (leb effective first) Etii Baseline
-certified (certificate.Qhs effective) kind first = cond (leb effective first) (qhsClass kind first) Baseline
+abbrev pub certifiedClass : Certificate → Kind → (first : ℕ) → Class
+certifiedClass None kind first = Baseline
+certifiedClass (certificate.Etii effective) kind first = cond (leb effective first) Etii Baseline
+certifiedClass (certificate.Qhs effective) kind first = cond (leb effective first) (qhsClass kind first) Baseline
 
 unfoldable pub classOf : Contract → (first : ℕ) → Class
-classOf contract first = certified (contract .certificate) (contract .kind) first
+classOf contract first = certifiedClass (contract .certificate) (contract .kind) first
 
 -- a class's cap; of QHS 10 times max(S − QHS minimum, 0)
 unfoldable pub classCap : Fuel → Class → (S : ℕ) → ℕ

@@ -1,6 +1,7 @@
--- `Pack` has one record, `Slots` slots and arrays written and read again, `Zeros` free slots, `Arrays` arrays that are edited, `Edits`
--- the bytes that the functions leave, `Replaced` bytes written over others, `Places` records that come first, `Numbered` slots by number, `Lists` tests.
--- `Parts` has bytes cut into parts, and `Vectors` worked examples.
+-- `Pack` has one record, `Slots` slots and arrays written and read again, `OneSlot` one slot of an array, `SlotTests` its test, `Zeros`
+-- free slots, `Arrays` arrays that are edited, `Scan` one pass over the slots, `Places` records that come first, `Numbered` slots by number.
+-- `NumberSet`, `NarrowFields`, `WrittenFields` and `WrittenSlots` have fields got and written, `Edits` the bytes that the functions leave,
+-- `Replaced` bytes written over others, `Parts` bytes cut into parts, `Lists` tests, `Vectors` worked examples.
 mod Parts
 pub mod Pack
 pub mod Lists

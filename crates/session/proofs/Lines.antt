@@ -14,7 +14,7 @@ use Rattle.text.specs.Commands.{commandOf}
 use Rattle.text.specs.Lines.{lineText, Wrote, WroteWithin}
 use Rattle.text.proofs.PieceLaws.{next-piece, front-piece, none-after, some-after, front-ends}
 use Rattle.text.proofs.Writes.{wrote-none, wrote-then, wrote-same}
-use Rattle.session.specs.Replies.{State, holding, initial, outcome, reply, next}
+use Rattle.session.specs.Replies.{State, holding, initial, responseTo, reply, next}
 use Rattle.session.specs.Transcript.{commandsOfPieces, commandsOf, exchanges, printed, mostInput, inputCommands, transcript, outputPerByte, mostOutput}
 
 -- what is printed of a text, from a state on
@@ -27,7 +27,7 @@ unfolding printed commandsOf commandsOfPieces pieces
 printed-none s = refl
 
 pub printed-unreadable : (s : State) → printed (exchanges s (Command.Unreadable ∷ [])) ≡ lineText (replyWithoutNumbers 1)
-unfolding printed outcome
+unfolding printed responseTo
 printed-unreadable s = append-nil (lineText (replyWithoutNumbers 1))
 
 commands-more : (line text : List ℕ) → commandsOfPieces (line ∷ pieces lineFeed text) ≡ commandOf line ∷ commandsOf text

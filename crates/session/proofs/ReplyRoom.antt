@@ -29,14 +29,14 @@ use Rattle.model.specs.declared.Answer.the-variants.{Refused}
 use Rattle.model.specs.declared.Call.{Call}
 use Rattle.model.specs.Calls.{replyOf, replyWithoutNumbers, CallWithBook, _with_, Test, _if_, firstOf, answerNumbers}
 use Rattle.model.specs.Rules.{refusal, unlessRefused}
-use Rattle.model.specs.Ledger.{Ledger, view, answer, outcome as ledgerOutcome, accept, turnedDown}
+use Rattle.model.specs.Ledger.{Ledger, view, answer, outcome, accept, turnedDown}
 use Rattle.model.specs.PresentRules.{tests}
 use Rattle.layout.specs.Layout.{wellFormed}
 use Rattle.layout.specs.Offsets.{ledgerLength}
 use Rattle.layout.specs.Present.{rules, layout, facts, machine}
 use Rattle.contract_calls.specs.Start.{startRefusal, doneUnlessRefused, startAnswer}
 use Rattle.calls.specs.Replies.{replyOfDay, replyOfDate}
-use Rattle.session.specs.Replies.{State, badPrice, priceLine, outcome, reply, next}
+use Rattle.session.specs.Replies.{State, badPrice, priceReply, responseTo, reply, next}
 use Rattle.session.specs.Transcript.{outputPerByte}
 
 -- ---- the numbers of tests have at most two digits
@@ -65,7 +65,7 @@ call-short l (Call.Report c with book) = (refl, omega arith)
 call-short l (Call.Total with book) = (refl, omega arith)
 
 answer-short : (l : Ledger) (c : CallWithBook) → Short (replyOf (answer rules l c))
-unfolding answer ledgerOutcome refusal
+unfolding answer outcome refusal
 answer-short l c = go (refusal rules (view l) c) (first-low (tests (view l) c) (call-short l c .0))
   where
     go : (n : ℕ) → n < 100 → Short (replyOf (unlessRefused n (accept rules l c) (turnedDown l n) .answers))
@@ -104,8 +104,8 @@ date-short day = go (ltb day dayCount) (dateOf day)
     go true d = omega arith
     go false d = omega arith
 
-price-short : (index value : ℕ) → Short (priceLine index value)
-unfolding priceLine
+price-short : (index value : ℕ) → Short (priceReply index value)
+unfolding priceReply
 price-short index value = go (badPrice index value)
   where
     go : (t : Bool) → Short (cond t (replyWithoutNumbers 8) (replyWithoutNumbers 0))
@@ -113,7 +113,7 @@ price-short index value = go (badPrice index value)
     go false = omega arith
 
 pub reply-short : (s : State) (c : Command) → Short (reply s c)
-unfolding outcome
+unfolding responseTo
 reply-short s (Command.Start territory) = start-short (s .ledger) territory
 reply-short s (Command.OnLedger c) = machine-short (s .ledger) (c with (s .book))
 reply-short s (Command.Day year month day) = day-short year month day
@@ -123,7 +123,7 @@ reply-short s Command.Unreadable = omega arith
 
 -- ---- the reply to a line, whose command is c
 line-room : (s : State) (line : List ℕ) → lineRoom (reply s (commandOf line)) ≤ outputPerByte * (length line + 1)
-unfolding outcome
+unfolding responseTo
 line-room s line = ⊎-elim
     (λ (e : commandOf line ≡ Command.Unreadable). rw e (omega (arith, refused-room 0 1 (omega arith) (omega arith))))
     (λ (l : shortestLine ≤ length line). omega (arith, short-room (reply s (commandOf line)) (reply-short s (commandOf line))))

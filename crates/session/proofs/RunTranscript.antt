@@ -47,11 +47,11 @@ linesText [] = []
 linesText (line ∷ lines) = lineText line ++ linesText lines
 
 -- all lines of the run are lines of its history
-run-lines : printed (exchanges initial runCommands) ≡ linesText (logOf runCommands .lines)
+run-lines : printed (exchanges initial runCommands) ≡ linesText (logOf runCommands .replies)
 unfolding runCommands linesText printed logOf logCommand emptyLog
 run-lines = refl
 
-run-answers : logOf runCommands .lines ≡ map replyOf (answersTo machine 0 runCalls)
+run-answers : logOf runCommands .replies ≡ map replyOf (answersTo machine 0 runCalls)
 unfolding runCommands runCalls zeroBook logOf logCommand emptyLog
 run-answers = log-answers runCommands
 

@@ -20,7 +20,7 @@ use Rattle.layout.specs.Offsets.{ledgerLength}
 use Rattle.layout.specs.Present.{rules, bytes, machine}
 use Rattle.layout.proofs.Theorems.{demand-three}
 use Rattle.contract_calls.specs.Start.{startRefusal, doneUnlessRefused, startAnswer, startBytes}
-use Rattle.session.specs.Replies.{State, holding, initial, onLedger, badPrice, priceLine, bookWith, outcome, reply, next}
+use Rattle.session.specs.Replies.{State, holding, initial, onLedger, badPrice, priceReply, bookWith, responseTo, reply, next}
 use Rattle.session.specs.Transcript.{Exchange, exchanges, inputCommands}
 use Rattle.session.specs.SessionBalance.{Log, emptyLog, isOk, withCall, logCommand, logOf, stateAfterCommands, EverySessionBalances}
 
@@ -40,11 +40,11 @@ record Agrees (s : State) (l : Log) : Type 0 where
   book : s .book ≡ l .book
   territory : l .territory ≤ 1
   bytes : s .ledger ≡ stateAfter machine (l .territory) (l .history)
-  answers : l .lines ≡ map replyOf (answersTo machine (l .territory) (l .history))
+  answers : l .replies ≡ map replyOf (answersTo machine (l .territory) (l .history))
 
 module _ (s : State) (l : Log) (a : Agrees s l) where
   -- after a call of the history
-  agrees-call : (c : CallWithBook) → Agrees (onLedger s c .next) (withCall l c (onLedger s c .line))
+  agrees-call : (c : CallWithBook) → Agrees (onLedger s c .next) (withCall l c (onLedger s c .reply))
   unfolding stateAfter answersTo
   agrees-call c =
       let t = l .territory in
@@ -60,9 +60,9 @@ module _ (s : State) (l : Log) (a : Agrees s l) where
       }
 
   -- a bill or rebill comes with the program's book, which is the log's
-  agrees-request : (call : List ℕ → CallWithBook) → Agrees (onLedger s (call (s .book)) .next) (withCall l (call (l .book)) (onLedger s (call (s .book)) .line))
+  agrees-request : (call : List ℕ → CallWithBook) → Agrees (onLedger s (call (s .book)) .next) (withCall l (call (l .book)) (onLedger s (call (s .book)) .reply))
   agrees-request call =
-      subst (λ (b : List ℕ). Agrees (onLedger s (call (s .book)) .next) (withCall l (call b) (onLedger s (call (s .book)) .line))) (a .book) (agrees-call (call (s .book)))
+      subst (λ (b : List ℕ). Agrees (onLedger s (call (s .book)) .next) (withCall l (call b) (onLedger s (call (s .book)) .reply))) (a .book) (agrees-call (call (s .book)))
 
   -- after a start, by the number that turns it down
   start-territory : (t : ℕ) → startRefusal (s .ledger) t ≡ 0 → t ≤ 1
@@ -70,21 +70,21 @@ module _ (s : State) (l : Log) (a : Agrees s l) where
   start-territory t e = ltb-false 1 t (clear ((2 if not (eqb (length (s .ledger)) ledgerLength)) ∷ (6 if ltb 1 t) ∷ []) tt e 6)
 
   agrees-start-by : (t n : ℕ) → startRefusal (s .ledger) t ≡ n
-      → Agrees (holding (unlessRefused n (bytes (fresh t)) (s .ledger)) (s .book)) (cond (isOk (replyOf (doneUnlessRefused n))) (record { book = l .book; territory = t; history = []; lines = [] }) l)
+      → Agrees (holding (unlessRefused n (bytes (fresh t)) (s .ledger)) (s .book)) (cond (isOk (replyOf (doneUnlessRefused n))) (record { book = l .book; territory = t; history = []; replies = [] }) l)
   unfolding stateAfter answersTo
   agrees-start-by t zero e = record { book = a .book; territory = start-territory t e; bytes = refl; answers = refl }
   agrees-start-by t (suc n) e = record { book = a .book; territory = a .territory; bytes = a .bytes; answers = a .answers }
 
   -- after a price, by whether it is turned down
   agrees-price-by : (index value : ℕ) (t : Bool) → Agrees (holding (s .ledger) (cond t (s .book) (set (s .book) index value)))
-      (cond (isOk (cond t (replyWithoutNumbers 8) (replyWithoutNumbers 0))) (record { book = set (l .book) index value; territory = l .territory; history = l .history; lines = l .lines }) l)
+      (cond (isOk (cond t (replyWithoutNumbers 8) (replyWithoutNumbers 0))) (record { book = set (l .book) index value; territory = l .territory; history = l .history; replies = l .replies }) l)
   agrees-price-by index value true = record { book = a .book; territory = a .territory; bytes = a .bytes; answers = a .answers }
   agrees-price-by index value false =
       record { book = ap (λ (b : List ℕ). set b index value) (a .book); territory = a .territory; bytes = a .bytes; answers = a .answers }
 
   -- after any command
   agrees-next : (c : Command) → Agrees (next s c) (logCommand l c (reply s c))
-  unfolding outcome logCommand startAnswer startBytes priceLine bookWith
+  unfolding responseTo logCommand startAnswer startBytes priceReply bookWith
   agrees-next (Command.Start territory) = agrees-start-by territory (startRefusal (s .ledger) territory) refl
   agrees-next (Command.OnLedger c) = agrees-request (_with_ c)
   agrees-next (Command.Day year month day) = a
@@ -92,7 +92,7 @@ module _ (s : State) (l : Log) (a : Agrees s l) where
   agrees-next (Command.Price index value) = agrees-price-by index value (badPrice index value)
   agrees-next Command.Unreadable = a
 
-agrees-after : (cs : List Command) (s : State) (l : Log) → Agrees s l → Agrees (run next s cs) (run (λ (m : Log) (e : Exchange). logCommand m (e .command) (e .line)) l (exchanges s cs))
+agrees-after : (cs : List Command) (s : State) (l : Log) → Agrees s l → Agrees (run next s cs) (run (λ (m : Log) (e : Exchange). logCommand m (e .command) (e .reply)) l (exchanges s cs))
 agrees-after [] s l a = a
 agrees-after (c ∷ cs) s l a = agrees-after cs (next s c) (logCommand l c (reply s c)) (agrees-next s l a c)
 
@@ -105,7 +105,7 @@ unfolding stateAfterCommands logOf
 agrees cs = agrees-after cs initial emptyLog agrees-first
 
 -- the lines printed for the history's calls are those of its answers
-pub log-answers : (cs : List Command) → logOf cs .lines ≡ map replyOf (answersTo machine (logOf cs .territory) (logOf cs .history))
+pub log-answers : (cs : List Command) → logOf cs .replies ≡ map replyOf (answersTo machine (logOf cs .territory) (logOf cs .history))
 log-answers cs = agrees cs .answers
 
 pub every-session-balances : EverySessionBalances

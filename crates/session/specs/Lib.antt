@@ -1,4 +1,4 @@
--- A session: the line for each answer, the reply to each command, the transcript of an input, and what it says of a history.
+-- A session: the reply to each command, the transcript of an input, and what it says of a history.
 pub mod Replies
 pub mod Transcript
 pub mod RunTranscript

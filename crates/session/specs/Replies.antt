@@ -25,26 +25,26 @@ holding ledger book = record { ledger = ledger; book = book }
 unfoldable pub initial : State
 initial = holding (machine .start 0) (replicate bookLength 0)
 
--- the line that is printed for a command, and what is held after it
-pub record Outcome : Type 0 where
-  pub line : Reply
+-- the reply to a command, whose line is printed, and what is held after it
+pub record Response : Type 0 where
+  pub reply : Reply
   pub next : State
 
--- a line, and nothing is changed
-abbrev pub saying : State → Reply → Outcome
-saying s line = record { line = line; next = s }
+-- a reply, and nothing is changed
+abbrev pub saying : State → Reply → Response
+saying s said = record { reply = said; next = s }
 
 -- a call of a history on the ledger: document 01's machine on the bytes
-abbrev pub onLedger : State → CallWithBook → Outcome
+abbrev pub onLedger : State → CallWithBook → Response
 onLedger s c = record {
-  line = replyOf (machine .answer (s .ledger) c);
+  reply = replyOf (machine .answer (s .ledger) c);
   next = holding (machine .step (s .ledger) c) (s .book);
 }
 
 -- start keeps the book
-abbrev pub starting : State → (territory : ℕ) → Outcome
+abbrev pub starting : State → (territory : ℕ) → Response
 starting s territory = record {
-  line = replyOf (startAnswer (s .ledger) territory);
+  reply = replyOf (startAnswer (s .ledger) territory);
   next = holding (startBytes (s .ledger) territory) (s .book);
 }
 
@@ -53,27 +53,27 @@ abbrev pub badPrice : (index value : ℕ) → Bool
 badPrice index value = leb bookLength index || ltb highestPrice value
 
 -- price sets a book entry and answers no numbers
-unfoldable pub priceLine : (index value : ℕ) → Reply
-priceLine index value = cond (badPrice index value) (replyWithoutNumbers 8) (replyWithoutNumbers 0)
+unfoldable pub priceReply : (index value : ℕ) → Reply
+priceReply index value = cond (badPrice index value) (replyWithoutNumbers 8) (replyWithoutNumbers 0)
 
 unfoldable pub bookWith : (index value : ℕ) → List ℕ → List ℕ
 bookWith index value book = cond (badPrice index value) book (set book index value)
 
-abbrev pub pricing : State → (index value : ℕ) → Outcome
-pricing s index value = record { line = priceLine index value; next = holding (s .ledger) (bookWith index value (s .book)) }
+abbrev pub pricing : State → (index value : ℕ) → Response
+pricing s index value = record { reply = priceReply index value; next = holding (s .ledger) (bookWith index value (s .book)) }
 
 -- what each command prints and leaves
-unfoldable pub outcome : State → Command → Outcome
-outcome s (Command.Start territory) = starting s territory
-outcome s (Command.OnLedger c) = onLedger s (c with (s .book))
-outcome s (Command.Day year month day) = saying s (replyOfDay (dayAnswer year month day))
-outcome s (Command.Date day) = saying s (replyOfDate (dateAnswer day))
-outcome s (Command.Price index value) = pricing s index value
-outcome s Command.Unreadable = saying s (replyWithoutNumbers 1)
+unfoldable pub responseTo : State → Command → Response
+responseTo s (Command.Start territory) = starting s territory
+responseTo s (Command.OnLedger c) = onLedger s (c with (s .book))
+responseTo s (Command.Day year month day) = saying s (replyOfDay (dayAnswer year month day))
+responseTo s (Command.Date day) = saying s (replyOfDate (dateAnswer day))
+responseTo s (Command.Price index value) = pricing s index value
+responseTo s Command.Unreadable = saying s (replyWithoutNumbers 1)
 
--- the line that is printed, and what is held next
+-- the reply, whose line is printed, and what is held next
 abbrev pub reply : State → Command → Reply
-reply s c = outcome s c .line
+reply s c = responseTo s c .reply
 
 abbrev pub next : State → Command → State
-next s c = outcome s c .next
+next s c = responseTo s c .next

@@ -22,11 +22,11 @@ pub record Log : Type 0 where
   pub book : List ℕ
   pub territory : ℕ
   pub history : List CallWithBook
-  pub lines : List Reply
+  pub replies : List Reply
 
 -- at first: a book of zeros, and a fresh Great Britain ledger
 unfoldable pub emptyLog : Log
-emptyLog = record { book = replicate bookLength 0; territory = 0; history = []; lines = [] }
+emptyLog = record { book = replicate bookLength 0; territory = 0; history = []; replies = [] }
 
 abbrev pub isZero : ℕ → Bool
 isZero zero = true
@@ -35,23 +35,23 @@ isZero (suc n) = false
 abbrev pub isOk : Reply → Bool
 isOk t = isZero (t .refused)
 
--- a call of the history, and the line printed for it
+-- a call of the history, and the reply to it
 abbrev pub withCall : Log → CallWithBook → Reply → Log
-withCall l c line = record { book = l .book; territory = l .territory; history = l .history ++ (c ∷ []); lines = l .lines ++ (line ∷ []) }
+withCall l c said = record { book = l .book; territory = l .territory; history = l .history ++ (c ∷ []); replies = l .replies ++ (said ∷ []) }
 
 -- an accepted start begins a history; an accepted price changes the book; day, date and what can't be read are no part of a history
 unfoldable pub logCommand : Log → Command → Reply → Log
-logCommand l (Command.Start territory) line = cond (isOk line) (record { book = l .book; territory = territory; history = []; lines = [] }) l
-logCommand l (Command.OnLedger c) line = withCall l (c with (l .book)) line
-logCommand l (Command.Day year month day) line = l
-logCommand l (Command.Date day) line = l
-logCommand l (Command.Price index value) line =
-    cond (isOk line) (record { book = set (l .book) index value; territory = l .territory; history = l .history; lines = l .lines }) l
-logCommand l Command.Unreadable line = l
+logCommand l (Command.Start territory) said = cond (isOk said) (record { book = l .book; territory = territory; history = []; replies = [] }) l
+logCommand l (Command.OnLedger c) said = withCall l (c with (l .book)) said
+logCommand l (Command.Day year month day) said = l
+logCommand l (Command.Date day) said = l
+logCommand l (Command.Price index value) said =
+    cond (isOk said) (record { book = set (l .book) index value; territory = l .territory; history = l .history; replies = l .replies }) l
+logCommand l Command.Unreadable said = l
 
 -- the log of a session's commands, read off the exchanges that its transcript prints, and what the program holds after them
 unfoldable pub logOf : List Command → Log
-logOf commands = run (λ l e. logCommand l (e .command) (e .line)) emptyLog (exchanges initial commands)
+logOf commands = run (λ l e. logCommand l (e .command) (e .reply)) emptyLog (exchanges initial commands)
 
 unfoldable pub stateAfterCommands : List Command → State
 stateAfterCommands commands = run next initial commands
@@ -62,7 +62,7 @@ pub record HistoryBalances (log : Log) (ledger : List ℕ) : Type 0 where
   -- the ledger is the one that the history leaves
   pub bytes : ledger ≡ stateAfter machine (log .territory) (log .history)
   -- the lines printed are those of the history's answers
-  pub answers : log .lines ≡ map replyOf (answersTo machine (log .territory) (log .history))
+  pub answers : log .replies ≡ map replyOf (answersTo machine (log .territory) (log .history))
   -- demand 3, of that history: with the answers printed, and the answer to a total called next
   pub balanced : BalancedByRates (sheetAfter rules (log .territory) (log .history)) (answersTo machine (log .territory) (log .history)) (machine .answer ledger (Call.Total with [])) (machine .facts ledger .rows)
 

@@ -31,13 +31,13 @@ mostInput = 65536
 unfoldable pub inputCommands : List ℕ → List Command
 inputCommands input = cond (ltb mostInput (length input)) (Command.Unreadable ∷ []) (commandsOf input)
 
--- a command, and the line that is printed for it
+-- a command, and the reply to it
 pub record Exchange : Type 0 where
   pub command : Command
-  pub line : Reply
+  pub reply : Reply
 
 abbrev pub exchange : State → Command → Exchange
-exchange s c = record { command = c; line = reply s c }
+exchange s c = record { command = c; reply = reply s c }
 
 -- the exchanges of a list of commands, from a state on: after a refused line it goes on to the next
 abbrev pub exchanges : State → List Command → List Exchange
@@ -46,7 +46,7 @@ exchanges s commands = replies next exchange s commands
 -- the text of the lines that are printed
 unfoldable pub printed : List Exchange → List ℕ
 printed [] = []
-printed (e ∷ es) = lineText (e .line) ++ printed es
+printed (e ∷ es) = lineText (e .reply) ++ printed es
 
 -- what is printed of an input
 unfoldable pub transcript : List ℕ → List ℕ

@@ -10,7 +10,7 @@ use text::reading::Command;
 ghost use mathlib.Core.Path.{_≡_};
 ghost use lib.ListN.{length};
 ghost use Rattle.limits.specs.Limits.{bookLength};
-ghost use Rattle.session.specs.Replies.{holding, priceLine, bookWith, reply, next};
+ghost use Rattle.session.specs.Replies.{holding, priceReply, bookWith, reply, next};
 
 // The number that turns down an index or a price that is too high.
 const TOO_HIGH: u32 = 8;
@@ -21,7 +21,7 @@ pub const UNREADABLE: u32 = 1;
 // price: sets an entry of the book.
 fn set_price(book: &mut [u32], index: u32, value: u32) -> Reply
     requires { ⌜ length (now book) ≡ bookLength ⌝ }
-    ensures { λ r. ⌜ (r ≡ priceLine index value) × (now (book .exit) ≡ bookWith index value (now (book .entry))) ⌝ }
+    ensures { λ r. ⌜ (r ≡ priceReply index value) × (now (book .exit) ≡ bookWith index value (now (book .entry))) ⌝ }
 {
     if BOOK_LENGTH <= index as usize {
         return reply_without_numbers(TOO_HIGH);

@@ -13,7 +13,7 @@ use lib.Signed.{nonNeg, ltZ}
 use mir.Syntax.{w64}
 use mir.Val.{SFits, Fits, toZ, ofZ}
 use mir.ValLaws.{toZ-ofZ}
-use Rattle.text.specs.Numbers.{digits, signed, isNegative}
+use Rattle.text.specs.Numbers.{digits, integerText, isNegative}
 use Rattle.text.specs.Lines.{Wrote, WroteWithin}
 use Rattle.text.proofs.Digits.{few-digits}
 use Rattle.text.proofs.Writes.{within-room, within-then, within-same}
@@ -55,11 +55,11 @@ positive-cast (pos n) h t = (tt, record { fits = omega (arith, h .sfits) })
 positive-cast (negsuc n) h t = let w : _≡_ {A = ℕ} 0 1 = cc in absurd (omega arith)
 
 -- ---- the text of an integer
-negative-text : (x : ℤ) → isNegative x ≡ true → signed x ≡ 45 ∷ digits (natAbs x)
+negative-text : (x : ℤ) → isNegative x ≡ true → integerText x ≡ 45 ∷ digits (natAbs x)
 negative-text (pos n) t = let w : _≡_ {A = ℕ} 0 1 = cc in absurd (omega arith)
 negative-text (negsuc n) t = refl
 
-positive-text : (x : ℤ) → isNegative x ≡ false → signed x ≡ digits (natAbs x)
+positive-text : (x : ℤ) → isNegative x ≡ false → integerText x ≡ digits (natAbs x)
 positive-text (pos n) t = refl
 positive-text (negsuc n) t = let w : _≡_ {A = ℕ} 0 1 = cc in absurd (omega arith)
 
@@ -85,8 +85,8 @@ module _ (x : ℤ) (h : SFits w64 x) {n : ℕ} (size : n ≡ natAbs (toZ w64 (of
     same-sign : isNegative x ≡ b
     same-sign = sym (sign ∙ ap isNegative (toZ-ofZ w64 x h))
 
-    pub negative-within : {d e f : List ℕ} {at p r : ℕ} → b ≡ true → Wrote d e at p (45 ∷ []) → Wrote e f p r (digits n) → WroteWithin 20 d f at r (signed x)
+    pub negative-within : {d e f : List ℕ} {at p r : ℕ} → b ≡ true → Wrote d e at p (45 ∷ []) → Wrote e f p r (digits n) → WroteWithin 20 d f at r (integerText x)
     negative-within t v w = within-same (within-then (within-room 1 v (omega arith)) (within-room 19 w at-most-19)) (rw digits-of (sym (negative-text x (same-sign ∙ t))))
 
-    pub positive-within : {d e : List ℕ} {at r : ℕ} → b ≡ false → Wrote d e at r (digits n) → WroteWithin 20 d e at r (signed x)
+    pub positive-within : {d e : List ℕ} {at r : ℕ} → b ≡ false → Wrote d e at r (digits n) → WroteWithin 20 d e at r (integerText x)
     positive-within t w = within-same (within-room 20 w (omega (arith, at-most-19))) (rw digits-of (sym (positive-text x (same-sign ∙ t))))

@@ -18,12 +18,12 @@ use Rattle.text.specs.ReadingSteps.{noForm, formAt}
 use Rattle.text.proofs.PieceLaws.{next-piece, none-after, some-after}
 
 -- ---- the search: `place` words before `at` are others
-pub record Searched (words word : List ℕ) (at place : ℕ) : Type 0 where
+pub record WordsPassed (words word : List ℕ) (at place : ℕ) : Type 0 where
   pub inside : at ≤ length words
   pub fewer : place ≤ at
   pub rest : placeFrom place (pieces space (drop at words)) word ≡ placeFrom 0 (pieces space words) word
 
-module _ {words word : List ℕ} {at place end : ℕ} (so : Searched words word at place) (h : PieceEnds space words at end) {same : Bool} (e : same ≡ sameText word (take (end - at) (drop at words))) where
+module _ {words word : List ℕ} {at place end : ℕ} (so : WordsPassed words word at place) (h : PieceEnds space words at end) {same : Bool} (e : same ≡ sameText word (take (end - at) (drop at words))) where
   pub found : same ≡ true → Found.At place ≡ placeFrom 0 (pieces space words) word
   unfolding placeFrom
   found y = sym (rw (next-piece space words at end h) (simp (sym e ∙ y))) ∙ so .rest
@@ -36,7 +36,7 @@ module _ {words word : List ℕ} {at place end : ℕ} (so : Searched words word 
   unfolding placeFrom
   nowhere n q = sym (other n ∙ rw (none-after space words end (omega arith))) ∙ so .rest
 
-  pub onward : same ≡ false → (end ≡ length words → ⊥) → Searched words word (end + 1) (place + 1)
+  pub onward : same ≡ false → (end ≡ length words → ⊥) → WordsPassed words word (end + 1) (place + 1)
   onward n q =
       let l : end < length words = lt-of-le-ne (h .inside) q in
       record {

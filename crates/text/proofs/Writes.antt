@@ -14,7 +14,7 @@ use mir.Val.{SFits, toZ, ofZ}
 use mir.ValLaws.{toZ-ofZ}
 use Rattle.model.specs.declared.Reply.{Reply}
 use Rattle.text.specs.Bytes.{bytes, space}
-use Rattle.text.specs.Numbers.{digits, signed}
+use Rattle.text.specs.Numbers.{digits, integerText}
 use Rattle.text.specs.Lines.{Wrote, WroteWithin, spacedNumber, numberRoom, numbersText, wordsText, wordsRoom}
 
 pub wrote-none : (d : List ℕ) (at : ℕ) → Wrote d d at at []
@@ -58,7 +58,7 @@ pub room-after : {m : ℕ} {d e : List ℕ} {at r : ℕ} {xs : List ℕ} (n : �
 room-after n w k h = omega (arith, w .within)
 
 -- ---- a number after a space: an integer of 64 bits that is passed on is read back from its bits
-pub spaced-within : {d e f : List ℕ} {at p r : ℕ} {z : ℤ} → SFits w64 z → Wrote d e at p (space ∷ []) → WroteWithin 20 e f p r (signed (toZ w64 (ofZ w64 z)))
+pub spaced-within : {d e f : List ℕ} {at p r : ℕ} {z : ℤ} → SFits w64 z → Wrote d e at p (space ∷ []) → WroteWithin 20 e f p r (integerText (toZ w64 (ofZ w64 z)))
     → WroteWithin numberRoom d f at r (spacedNumber z)
 spaced-within {z = z} h v w = within-then (within-room 1 v (omega arith)) (rw (toZ-ofZ w64 z h) at w)
 

@@ -9,11 +9,11 @@ use lib.ListN.{length, take, drop}
 use Rattle.model.specs.declared.Reply.{Reply}
 use Rattle.model.specs.Calls.{answerNumbers}
 use Rattle.text.specs.Bytes.{bytes, space, lineFeed}
-use Rattle.text.specs.Numbers.{digits, signed}
+use Rattle.text.specs.Numbers.{digits, integerText}
 
 -- a space and a number
 abbrev pub spacedNumber : ℤ → List ℕ
-spacedNumber z = space ∷ signed z
+spacedNumber z = space ∷ integerText z
 
 -- numbers, a space before each
 abbrev pub numbersText : List ℤ → List ℕ

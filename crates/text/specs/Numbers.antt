@@ -27,9 +27,9 @@ isNegative (pos n) = false
 isNegative (negsuc n) = true
 
 -- an integer in decimal, with a minus sign before a negative one
-abbrev pub signed : ℤ → List ℕ
-signed (pos n) = digits n
-signed (negsuc n) = byte "-" ∷ digits (suc n)
+abbrev pub integerText : ℤ → List ℕ
+integerText (pos n) = digits n
+integerText (negsuc n) = byte "-" ∷ digits (suc n)
 
 -- a byte is one of the ten digits
 abbrev pub isDigit : ℕ → Bool

@@ -6,7 +6,7 @@ ghost use Prim.Native.Nat.{_+_, _*_, _≤_};
 ghost use lib.IntN.{natAbs};
 ghost use lib.ListN.{length, take};
 ghost use Rattle.model.specs.Calls.{answerNumbers};
-ghost use Rattle.text.specs.Numbers.{digits, isNegative, signed};
+ghost use Rattle.text.specs.Numbers.{digits, isNegative, integerText};
 ghost use Rattle.text.specs.Lines.{Wrote, WroteWithin, spacedNumber, numberRoom, numbersText, wordsText, wordsRoom, lineText, lineRoom};
 
 // A space and a number of 64 bits take at most this many bytes.
@@ -63,7 +63,7 @@ fn magnitude(x: i64) -> u64
 // Writes an integer in decimal from `at` on, with a minus sign before a negative one: at most 20 bytes.
 fn write_integer(out: &mut [u8], at: usize, x: i64) -> usize
     requires { ⌜ at + 20 ≤ length (now out) ⌝ }
-    ensures { λ r. ⌜ WroteWithin 20 (now (out .entry)) (now (out .exit)) at r (signed x) ⌝ }
+    ensures { λ r. ⌜ WroteWithin 20 (now (out .entry)) (now (out .exit)) at r (integerText x) ⌝ }
 {
     let size = magnitude(x);
     if is_negative(x) {

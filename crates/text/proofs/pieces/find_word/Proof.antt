@@ -4,12 +4,12 @@ use mathlib.Core.Path.{refl}
 use Prim.Native.Nat.{_-_}
 use borrow.Author.Needs.{needs}
 use lib.ListN.{length}
-use Rattle.text.proofs.Places.{Searched, found, nowhere, onward}
+use Rattle.text.proofs.Places.{WordsPassed, found, nowhere, onward}
 use Rattle.text.proofs.pieces.find_word.Statement.{statement}
 use Rattle.text.proofs.pieces.find_word.Tie as tie
 
 abbrev Inv-loop : tie.InvT-loop
-Inv-loop words word at₀ place₀ at place = Searched words word at place
+Inv-loop words word at₀ place₀ at place = WordsPassed words word at place
 
 abbrev μ-loop : tie.MeasureT-loop
 μ-loop words word at₀ place₀ at place = length words - at

@@ -1,4 +1,4 @@
--- `first_row` goes over the rows: what is left to pass over, with the rows passed, is the place.
+-- `find_row` goes over the rows: what is left to pass over, with the rows passed, is the place.
 use mathlib.Core.Path.{_≡_, sym, ap, _∙_}
 use mathlib.Core.List.{[]}
 use Prim.Native.Nat.{_+_, _-_, _≤_, _<_}
@@ -13,8 +13,8 @@ use Rattle.layout.proofs.Present.{present, formed-length}
 use Rattle.layout.proofs.HeldRows.{rows-most, row-held}
 use Rattle.ledger.proofs.Search.{search-found, search-next, search-end}
 use borrow.Author.Needs.{needs}
-use Rattle.ledger.proofs.rows.first_row.Statement.{statement}
-use Rattle.ledger.proofs.rows.first_row.Tie as tie
+use Rattle.ledger.proofs.rows.find_row.Statement.{statement}
+use Rattle.ledger.proofs.rows.find_row.Tie as tie
 
 abbrev noRow : Row
 noRow = rowOfNumbers []
@@ -64,8 +64,8 @@ returns-2 c =
     after .passes .ensures ∙ ap (λ (x : Row). rowPasses (start .args .test) (x .bill)) (after .before .before .row-at .ensures ∙ row-held present (start .args .b .now) (start .pre .formed) i noRow inside) in
     sym (at-loop .loop .inv .1 ∙ search-found (rowPasses (start .args .test)) xs noRow i inside (sym read ∙ c .if2 .taken))
 
-pub first-row-spec : {M : Type 1} → statement M
-first-row-spec =
+pub find-row-spec : {M : Type 1} → statement M
+find-row-spec =
     tie.close
     (tie.spec
     Inv-loop
