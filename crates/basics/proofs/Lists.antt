@@ -26,6 +26,10 @@ module _ {A : Type 0} where
   all-at P (x ∷ xs) d a zero h = a .0
   all-at P (x ∷ xs) d a (suc n) h = all-at P xs d (a .1) n (le-of-suc-le-suc h)
 
+  pub all-of-map : {B : Type 0} (Q : B → Type 0) (f : A → B) → ((x : A) → Q (f x)) → (xs : List A) → All Q (map f xs)
+  all-of-map Q f h [] = tt
+  all-of-map Q f h (x ∷ xs) = (h x, all-of-map Q f h xs)
+
   pub all-map : (P Q : A → Type 0) → ((x : A) → P x → Q x) → (xs : List A) → All P xs → All Q xs
   all-map P Q f [] a = tt
   all-map P Q f (x ∷ xs) a = (f x (a .0), all-map P Q f xs (a .1))

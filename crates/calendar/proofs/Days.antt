@@ -10,7 +10,7 @@ use Rattle.calendar.specs.declared.CalendarDate.{CalendarDate}
 use Rattle.calendar.specs.Calendar.{dateFrom, sameDate, nextDate}
 use Rattle.calendar.specs.Days.{dates, dateOf, noDate, packed}
 use Rattle.calendar.proofs.SameDate.{same-equal}
-use Rattle.calendar.proofs.Tables.{adjacent, adjacent-at}
+use Rattle.basics.proofs.Tables.{adjacent, adjacent-at}
 
 -- the table has 852 entries
 pub day-count : length dates ≡ dayCount

@@ -1,6 +1,5 @@
 -- The laws of the crate, for its own proofs and for its callers'.
 pub mod SameDate
-pub mod Tables
 pub mod Positions
 pub mod Days
 pub mod SchemeMonths

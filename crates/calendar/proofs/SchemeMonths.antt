@@ -14,7 +14,7 @@ use Rattle.basics.proofs.Tests.{eq-yes}
 use Rattle.calendar.specs.declared.CalendarDate.{CalendarDate}
 use Rattle.calendar.specs.Days.{dates, dateOf, noDate, schemeMonth, schemeMonthOf}
 use Rattle.calendar.proofs.Days.{day-count}
-use Rattle.calendar.proofs.Tables.{each, each-at}
+use Rattle.basics.proofs.Tables.{each, each-at}
 
 -- how many of these days have come by a day
 unfoldable pub begun : ℕ → List ℕ → ℕ

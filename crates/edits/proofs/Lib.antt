@@ -1,3 +1,2 @@
 -- What the edits of the bytes do to the facts that the bytes hold.
-pub mod Parts
 pub mod PackedChanges

@@ -16,7 +16,7 @@ use Rattle.model.specs.Rules.{refusal}
 use Rattle.model.specs.Ledger.{view, accept}
 use Rattle.model.specs.PresentRules.{openTests}
 use Rattle.model.proofs.Refusals.{fitsAt, numbered, clear, refused-first, refused-later}
-use Rattle.rules.proofs.Tests.{tests, was-true, was-false}
+use Rattle.basics.proofs.TestChains.{tests, was-true, was-false}
 use Rattle.layout.specs.Layout.{ledgerOf}
 use Rattle.layout.specs.declared.Checked.{Checked}
 use Rattle.layout.specs.declared.Checked.the-variants.{Malformed, WellFormed}

@@ -8,7 +8,7 @@ use lib.IntN.{ℤ, pos, subℕ, _+ℤ_, +ℤ-idr}
 use Rattle.limits.specs.Limits.{ticksPerPenny}
 use Rattle.basics.specs.Lists.{All}
 use Rattle.basics.specs.Integers.{sumℤ}
-use Rattle.basics.proofs.Integers.{sub-ge, reset}
+use Rattle.basics.proofs.Integers.{sub-ge, reset, sum-append}
 use Rattle.rates.specs.declared.Bill.{Bill}
 use Rattle.model.specs.declared.Answer.{Answer}
 use Rattle.model.specs.declared.Answer.the-variants.{Claimed, Totalled}
@@ -21,7 +21,7 @@ use Rattle.model.specs.Sheet.{Sheet, blank, due as dueS, step as stepS}
 use Rattle.model.specs.History.{run, replies, sheetAfter, stateAfter, answersTo, ledgerMachine}
 use Rattle.model.specs.Balance.{Balanced, EveryHistoryBalances}
 use Rattle.model.proofs.Outcomes.{either-outcome}
-use Rattle.model.proofs.Runs.{simulates, conserves, sum-append}
+use Rattle.model.proofs.Runs.{simulates, conserves}
 use Rattle.model.proofs.Relation.{Related, BillOk, agree, dues}
 use Rattle.model.proofs.Conservation.{law-due, law-pence}
 use Rattle.model.proofs.KeepsRelation.{keep-act}

@@ -19,7 +19,6 @@ pub mod Balance
 pub mod Refinement
 pub mod BytesBalance
 pub mod HoldsFacts
-pub mod Differences
 pub mod SheetAnswers
 pub mod Postings
 pub mod BalanceByRates

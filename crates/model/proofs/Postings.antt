@@ -10,7 +10,7 @@ use Rattle.limits.specs.Limits.{ticksPerPenny}
 use Rattle.basics.specs.Lists.{total}
 use Rattle.basics.proofs.Tests.{eq-no}
 use Rattle.basics.proofs.Lists.{total-cong, total-split}
-use Rattle.basics.proofs.Integers.{sub-lt}
+use Rattle.basics.proofs.Integers.{sub-lt, sub-pos, sub-same, sum-append}
 use Rattle.rates.specs.declared.Contract.{Contract}
 use Rattle.rates.specs.declared.Bill.{Bill}
 use Rattle.model.specs.Codes.{certify}
@@ -28,12 +28,10 @@ use Rattle.model.specs.Postings.{answeredRate, answeredFigures, Postings
 use Rattle.model.proofs.RulesLaws.{RulesLaws}
 use Rattle.model.proofs.Outcomes.{either-outcome}
 use Rattle.model.proofs.RowSums.{total-strike}
-use Rattle.model.proofs.Runs.{sum-append}
 use Rattle.model.proofs.Relation.{Related, agree, dues}
 use Rattle.model.proofs.KeepsRelation.{part-other, keep-act}
 use Rattle.model.proofs.Conservation.{law-due, law-pence}
 use Rattle.model.proofs.Balance.{start}
-use Rattle.model.proofs.Differences.{sub-pos, sub-same}
 use Rattle.model.proofs.SheetAnswers.{requested-amount, named-amount}
 use Rattle.model.proofs.Refinement.{same-answers}
 use Rattle.model.proofs.BytesBalance.{bytes-refine}

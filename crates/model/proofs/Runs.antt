@@ -1,8 +1,8 @@
 -- Two machines run over the same inputs: a relation that each input keeps holds after any list, and a quantity that each input changes by
 -- what is answered is changed by the sum of the answers. Over any types of state, input and answer, and from any related start. Assumes nothing.
 use mathlib.Core.Path.{_≡_, sym, ap, _∙_}
-use mathlib.Core.List.{List, [], _∷_, _++_}
-use lib.IntN.{ℤ, _+ℤ_, +ℤ-assoc, +ℤ-idr, +ℤ-idl}
+use mathlib.Core.List.{List, [], _∷_}
+use lib.IntN.{ℤ, _+ℤ_, +ℤ-assoc, +ℤ-idr}
 use Rattle.basics.specs.Integers.{sumℤ}
 use Rattle.model.specs.History.{run, replies}
 
@@ -16,7 +16,3 @@ module _ {L S C A : Type 0} (step : L → C → L) (answer : L → C → A) (ste
   conserves q δ law (c ∷ h) l s r =
       conserves q δ law h (step l c) (stepS s c) (keep l s c r) ∙ ap (λ (z : ℤ). z +ℤ sumℤ δ (replies step answer (step l c) h)) (law l s c r)
       ∙ +ℤ-assoc (q l) (δ (answer l c)) (sumℤ δ (replies step answer (step l c) h))
-
-pub sum-append : {A : Type 0} (δ : A → ℤ) (xs ys : List A) → sumℤ δ (xs ++ ys) ≡ sumℤ δ xs +ℤ sumℤ δ ys
-sum-append δ [] ys = sym (+ℤ-idl _)
-sum-append δ (x ∷ xs) ys = ap (λ (z : ℤ). δ x +ℤ z) (sum-append δ xs ys) ∙ sym (+ℤ-assoc (δ x) (sumℤ δ xs) (sumℤ δ ys))

@@ -28,7 +28,7 @@ use Rattle.model.specs.SheetAnswers.{namedPart, acceptedAnswer, sheetAns
 use Rattle.model.proofs.RulesLaws.{RulesLaws}
 use Rattle.model.proofs.Outcomes.{either-outcome}
 use Rattle.model.proofs.RowSums.{amount-at}
-use Rattle.model.proofs.Differences.{sub-pos}
+use Rattle.basics.proofs.Integers.{sub-pos}
 use Rattle.model.proofs.Relation.{Related, agree, dues, once-row}
 use Rattle.model.proofs.KeepsRelation.{rerated-row, keep-act}
 use Rattle.model.proofs.Balance.{start, related, pence-run}

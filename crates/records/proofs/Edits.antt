@@ -14,7 +14,7 @@ use lib.ListN.{length, take, drop, getD, set, replicate, length-append, length-d
 use lib.Seq.{length-take-le, take-all, take-at, drop-at, set-at, take-take, take-suc, take-length, drop-cons, drop-length, append-snoc, take-append-le, getD-take, getD-drop, paste, paste-suc, drop-paste}
 use Rattle.basics.proofs.Tests.{either, yes-eq, no-eq, eq-yes, every-at}
 use Rattle.records.specs.Edits.{insertAt, removeAt, replaceAt, zeroAt, onPart, copied}
-use Rattle.records.proofs.Lists.{at-every-map}
+use Rattle.basics.proofs.ListTests.{at-every-map}
 
 -- ---- parts of bytes
 

@@ -1,10 +1,9 @@
 -- `Pack` has one record, `Slots` slots and arrays written and read again, `OneSlot` one slot of an array, `SlotTests` its test, `Zeros`
 -- free slots, `Arrays` arrays that are edited, `Scan` one pass over the slots, `Places` records that come first, `Numbered` slots by number.
 -- `NumberSet`, `NarrowFields`, `WrittenFields` and `WrittenSlots` have fields got and written, `Edits` the bytes that the functions leave,
--- `Replaced` bytes written over others, `Parts` bytes cut into parts, `Lists` tests, `Vectors` worked examples.
+-- `Replaced` bytes written over others, `Parts` bytes cut into parts, `Vectors` worked examples.
 mod Parts
 pub mod Pack
-pub mod Lists
 pub mod Slots
 pub mod Zeros
 pub mod Numbered

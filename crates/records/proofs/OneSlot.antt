@@ -16,7 +16,7 @@ use Rattle.records.specs.Slots.{RecordLayout, whole, allZero, slotIn, sl
 use Rattle.records.specs.OneSlot.{slotNumbers, slotAt}
 use Rattle.records.specs.Edits.{zeroAt}
 use Rattle.records.proofs.Pack.{unpack-within}
-use Rattle.records.proofs.Lists.{at-every-map, fails-every-map}
+use Rattle.basics.proofs.ListTests.{at-every-map, fails-every-map}
 use Rattle.records.proofs.Slots.{length-slots, slot-at, held-at}
 use Rattle.records.proofs.Zeros.{zeroAt-fields}
 

@@ -1,11 +1,13 @@
--- Bytes written over others: what is there, what is after it, how many there are, and bytes written over themselves. Assumes nothing.
-use mathlib.Core.Path.{_≡_, refl, ap, _∙_}
+-- Bytes written over others: what is there, what is after it, how many there are, bytes written over themselves, and a part that is lent and written whole. Assumes nothing.
+use mathlib.Core.Path.{_≡_, refl, sym, ap, _∙_}
 use mathlib.Core.List.{List, _++_, append-assoc}
-use Prim.Native.Nat.{ℕ, _+_, _≤_}
+use Prim.Native.Nat.{ℕ, _+_, _-_, _≤_}
 use native.Mathlib.Omega.{arith}
+use borrow.Rule.Slice.PartMut.{putMid}
 use lib.ListN.{length, take, drop, length-append, length-drop, take-append-drop}
 use lib.Seq.{length-take-le, take-at, drop-at, drop-drop}
-use Rattle.records.specs.Edits.{replaceAt}
+use Rattle.records.specs.Edits.{replaceAt, onPart}
+use Rattle.records.proofs.Edits.{part-lent}
 
 module _ (at : ℕ) (new b : List ℕ) (h : at + length new ≤ length b) where
   front : length (take at b ++ new) ≡ at + length new
@@ -30,3 +32,9 @@ unfolding replaceAt
 replaced-same at n b h =
     let long : length (take n (drop at b)) ≡ n = length-take-le n (drop at b) (omega (arith, length-drop at b)) in
     rw (long, ← drop-drop n at b, take-append-drop n (drop at b)) (take-append-drop at b)
+
+-- the bytes `new` are what the loan of as many bytes leaves
+pub part-written : (at n : ℕ) (new b x : List ℕ) → length new ≡ n → x ≡ new → putMid at (at + n - at) b x ≡ replaceAt at new b
+unfolding replaceAt onPart
+part-written at n new b x l e =
+    part-lent at (at + n) (λ y. new) b x (omega arith) e ∙ ap (λ (k : ℕ). take at b ++ (new ++ drop (at + k) b)) (sym l)

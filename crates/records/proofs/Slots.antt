@@ -14,12 +14,12 @@ use Rattle.fields.specs.Field.{AreBytes}
 use Rattle.fields.specs.Fields.{fields, Fit}
 use Rattle.basics.specs.Tests.{every}
 use Rattle.basics.specs.Lists.{All}
+use Rattle.basics.proofs.Lists.{all-of-map}
 use Rattle.basics.proofs.Tests.{either, and-left, and-right, and-yes, eq-yes, eq-no}
 use Rattle.records.specs.Pack.{size, WholeBytes, pack, unpack, cut, join}
 use Rattle.records.specs.Slots.{allZero, zerosFor, RecordLayout, whole, recordFields, slotOut, slotIn, slotOk, passes, slots, arrayIn, slotBytes, arrayOut, RecordLaws}
 use Rattle.records.proofs.Parts.{Parts, length-cut, parts-cut, are-cut, length-join, are-join, join-append, join-cut, cut-join}
 use Rattle.records.proofs.Pack.{length-pack, are-pack, fit-unpack, unpack-pack, pack-unpack, unpack-within}
-use Rattle.records.proofs.Lists.{all-of-map, all-true}
 
 -- ---- lists of values
 
@@ -136,7 +136,7 @@ module _ {A : Type 0} (k : RecordLayout A) (test : List ℕ → Bool) (ok : Reco
 
 module _ {A : Type 0} (k : RecordLayout A) where
   parts : (os : List (Option A)) → Parts (size (whole k)) (map (slotBytes k) os)
-  parts os = all-of-map (λ p. length p ≡ size (whole k)) (slotBytes k) os (all-true _ (λ o. length-pack (whole k) (slotOut k o)) os)
+  parts os = all-of-map (λ p. length p ≡ size (whole k)) (slotBytes k) (λ o. length-pack (whole k) (slotOut k o)) os
 
   pub length-arrayOut : (os : List (Option A)) → length (arrayOut k os) ≡ length os * size (whole k)
   unfolding arrayOut
@@ -146,7 +146,7 @@ module _ {A : Type 0} (k : RecordLayout A) where
   pub are-arrayOut : (os : List (Option A)) → AreBytes (arrayOut k os)
   unfolding arrayOut
   are-arrayOut os =
-      are-join (map (slotBytes k) os) (all-of-map AreBytes (slotBytes k) os (all-true _ (λ o. are-pack (whole k) (slotOut k o)) os))
+      are-join (map (slotBytes k) os) (all-of-map AreBytes (slotBytes k) (λ o. are-pack (whole k) (slotOut k o)) os)
 
   pub array-append : (os ps : List (Option A)) → arrayOut k (os ++ ps) ≡ arrayOut k os ++ arrayOut k ps
   unfolding arrayOut

@@ -1,4 +1,3 @@
 -- Laws that the proofs of this crate share.
 pub mod Books
 pub mod Prices
-pub mod Tests

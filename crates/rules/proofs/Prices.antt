@@ -8,7 +8,7 @@ use Rattle.rates.specs.declared.Kind.{Kind}
 use Rattle.rates.specs.declared.Kind.the-variants.{Fixed, Variable, Flexible, Index}
 use Rattle.model.specs.Codes.{isFlexible}
 use Rattle.model.specs.Book.{referenceOf}
-use Rattle.rules.proofs.Tests.{was-true, was-false}
+use Rattle.basics.proofs.TestChains.{was-true, was-false}
 
 pub flexible-price : (kind : Kind) (wap published : ℕ) → isFlexible kind ≡ true → wap ≡ referenceOf kind wap published
 flexible-price (Fixed fix entry) wap published e = absurd (false≢true e)

@@ -8,8 +8,7 @@ use mir.Syntax.{w64}
 use mir.Val.{SFits, toZ, ofZ}
 use mir.ValLaws.{toZ-pos, toZ-ofZ}
 use Rattle.basics.proofs.Tests.{either, lt-yes, lt-no}
-use Rattle.basics.proofs.Integers.{sub-ge, sub-lt}
-use Rattle.model.proofs.Differences.{sub-pos}
+use Rattle.basics.proofs.Integers.{sub-ge, sub-lt, sub-pos}
 
 -- a signed number that fits is read back from its bits
 pub signed-read : (r z : ℤ) → SFits w64 r → r ≡ z → toZ w64 (ofZ w64 r) ≡ z

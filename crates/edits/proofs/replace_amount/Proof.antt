@@ -12,7 +12,7 @@ use Rattle.layout.specs.Offsets.{rowStart, rowLength}
 use Rattle.records.specs.OneSlot.{recordIn, recordBytes}
 use Rattle.layout.specs.Present.{rowAt}
 use Rattle.layout.proofs.Present.{row-in-slot}
-use Rattle.edits.proofs.Parts.{part-written}
+use Rattle.records.proofs.Replaced.{part-written}
 use Rattle.edits.proofs.PackedChanges.{length-row}
 use borrow.Author.Needs.{needs}
 use Rattle.edits.proofs.replace_amount.Statement.{statement}

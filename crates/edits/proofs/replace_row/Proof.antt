@@ -2,7 +2,7 @@
 use Rattle.layout.specs.PresentLayout.{rowRecord}
 use Rattle.layout.specs.Offsets.{rowStart, rowLength}
 use Rattle.records.specs.OneSlot.{recordBytes}
-use Rattle.edits.proofs.Parts.{part-written}
+use Rattle.records.proofs.Replaced.{part-written}
 use Rattle.edits.proofs.PackedChanges.{length-row}
 use borrow.Author.Needs.{needs}
 use Rattle.edits.proofs.replace_row.Statement.{statement}

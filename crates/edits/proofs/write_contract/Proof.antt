@@ -3,7 +3,7 @@ use Prim.Native.Nat.{_+_, _*_}
 use Rattle.layout.specs.PresentLayout.{contractRecord}
 use Rattle.layout.specs.Offsets.{firstContract, contractLength}
 use Rattle.records.specs.OneSlot.{recordBytes}
-use Rattle.edits.proofs.Parts.{part-written}
+use Rattle.records.proofs.Replaced.{part-written}
 use Rattle.edits.proofs.PackedChanges.{length-contract}
 use borrow.Author.Needs.{needs}
 use Rattle.edits.proofs.write_contract.Statement.{statement}

@@ -1,5 +1,5 @@
 -- `certificate_of` makes the certificate of its numbers: by the class.
-use Rattle.rules.proofs.Tests.{tests}
+use Rattle.basics.proofs.TestChains.{tests}
 use Rattle.rules.proofs.codes.certificate_of.Statement.{statement}
 use Rattle.rules.proofs.codes.certificate_of.Tie as tie
 

@@ -1,5 +1,5 @@
 -- `fuel_of` makes the fuel of its code.
-use Rattle.rules.proofs.Tests.{tests}
+use Rattle.basics.proofs.TestChains.{tests}
 use Rattle.rules.proofs.codes.fuel_of.Statement.{statement}
 use Rattle.rules.proofs.codes.fuel_of.Tie as tie
 

@@ -1,5 +1,5 @@
 -- `kind_of` makes the kind of its numbers: by the code.
-use Rattle.rules.proofs.Tests.{tests}
+use Rattle.basics.proofs.TestChains.{tests}
 use Rattle.rules.proofs.codes.kind_of.Statement.{statement}
 use Rattle.rules.proofs.codes.kind_of.Tie as tie
 

@@ -1,6 +1,6 @@
 -- `bad_amounts` is the test `badAmounts`: by the tests on the way to each return.
 use Rattle.model.specs.PresentRules.{badAmounts}
-use Rattle.rules.proofs.Tests.{chain}
+use Rattle.basics.proofs.TestChains.{chain}
 use borrow.Author.Needs.{needs}
 use Rattle.rules.proofs.ranges.bad_amounts.Statement.{statement}
 use Rattle.rules.proofs.ranges.bad_amounts.Tie as tie

@@ -1,6 +1,6 @@
 -- `bad_days` is the test `badDays`: by the tests on the way to each return.
 use Rattle.model.specs.PresentRules.{badDays}
-use Rattle.rules.proofs.Tests.{tests}
+use Rattle.basics.proofs.TestChains.{tests}
 use Rattle.rules.proofs.ranges.bad_days.Statement.{statement}
 use Rattle.rules.proofs.ranges.bad_days.Tie as tie
 

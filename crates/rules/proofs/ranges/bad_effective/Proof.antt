@@ -1,6 +1,6 @@
 -- `bad_effective` is the test `badEffective`: by the tests on the way to each return.
 use Rattle.model.specs.PresentRules.{badEffective}
-use Rattle.rules.proofs.Tests.{tests}
+use Rattle.basics.proofs.TestChains.{tests}
 use Rattle.rules.proofs.ranges.bad_effective.Statement.{statement}
 use Rattle.rules.proofs.ranges.bad_effective.Tie as tie
 

@@ -1,6 +1,6 @@
 -- `bad_kind` is the test `badKind`: by the tests on the way to each return.
 use Rattle.model.specs.PresentRules.{badKind}
-use Rattle.rules.proofs.Tests.{tests}
+use Rattle.basics.proofs.TestChains.{tests}
 use Rattle.rules.proofs.ranges.bad_kind.Statement.{statement}
 use Rattle.rules.proofs.ranges.bad_kind.Tie as tie
 

@@ -1,6 +1,6 @@
 -- `bad_span` is the test `badSpan`: by the tests on the way to each return.
 use Rattle.model.specs.PresentRules.{badSpan}
-use Rattle.rules.proofs.Tests.{tests}
+use Rattle.basics.proofs.TestChains.{tests}
 use Rattle.rules.proofs.ranges.bad_span.Statement.{statement}
 use Rattle.rules.proofs.ranges.bad_span.Tie as tie
 

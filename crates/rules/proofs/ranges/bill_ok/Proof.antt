@@ -1,6 +1,6 @@
 -- `bill_ok` is the test `billOk`: by the tests on the way to each return.
 use Rattle.model.specs.PresentRules.{billOk}
-use Rattle.rules.proofs.Tests.{chain}
+use Rattle.basics.proofs.TestChains.{chain}
 use borrow.Author.Needs.{needs}
 use Rattle.rules.proofs.ranges.bill_ok.Statement.{statement}
 use Rattle.rules.proofs.ranges.bill_ok.Tie as tie

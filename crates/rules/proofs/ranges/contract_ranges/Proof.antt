@@ -1,6 +1,6 @@
 -- `contract_ranges` is the test `contractRanges`: by the tests on the way to each return.
 use Rattle.model.specs.PresentRules.{contractRanges}
-use Rattle.rules.proofs.Tests.{chain}
+use Rattle.basics.proofs.TestChains.{chain}
 use borrow.Author.Needs.{needs}
 use Rattle.rules.proofs.ranges.contract_ranges.Statement.{statement}
 use Rattle.rules.proofs.ranges.contract_ranges.Tie as tie

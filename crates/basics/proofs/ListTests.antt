@@ -1,4 +1,4 @@
--- Tests and facts of each element of a list, by elements and by numbers. Assumes nothing.
+-- A test that each element of a list passes, and its element at each place. Assumes nothing.
 use mathlib.Core.Path.{_≡_, refl, sym, _∙_}
 use mathlib.Core.Bool.{Bool, true, false, false≢true}
 use mathlib.Core.List.{List, [], _∷_, map}
@@ -6,19 +6,8 @@ use Prim.Native.Nat.{ℕ, zero, suc, _<_}
 use native.Mathlib.Omega.{arith}
 use native.Mathlib.Nat.{not-suc-le-zero, le-of-suc-le-suc}
 use lib.ListN.{length, getD}
 use Rattle.basics.specs.Tests.{every}
-use Rattle.basics.specs.Lists.{All}
 use Rattle.basics.proofs.Tests.{either, and-left, and-right, and-yes}
-
-module _ {A B : Type 0} where
-  pub all-of-map : (P : B → Type 0) (f : A → B) (xs : List A) → All (λ x. P (f x)) xs → All P (map f xs)
-  all-of-map P f [] a = tt
-  all-of-map P f (x ∷ xs) a = (a .0, all-of-map P f xs (a .1))
-
-module _ {A : Type 0} where
-  pub all-true : (P : A → Type 0) → ((x : A) → P x) → (xs : List A) → All P xs
-  all-true P f [] = tt
-  all-true P f (x ∷ xs) = (f x, all-true P f xs)
 
 module _ {A : Type 0} (p : A → Bool) where
   module _ (d : A) where
