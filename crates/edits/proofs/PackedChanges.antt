@@ -16,8 +16,8 @@ use Rattle.rates.specs.declared.Contract.{Contract}
 use Rattle.model.specs.declared.Row.{Row}
 use Rattle.model.specs.Contracts.{putContract}
 use Rattle.model.specs.Ledger.{Ledger, fresh, withRows}
-use Rattle.layout.specs.Layout.{contractsFrom, rowsFrom, ledgerSize}
 use Rattle.layout.specs.PresentLayout.{contractRecord, rowRecord}
+use Rattle.layout.proofs.Lawful.{offsets}
 use Rattle.layout.specs.Offsets.{ledgerLength, firstContract, contractLength, firstRow, rowStart, rowLength}
 use Rattle.layout.proofs.Changes.{row-inserted, row-removed, row-replaced, contract-put, header-changed, fresh-bytes}
 use Rattle.records.specs.OneSlot.{recordBytes}
@@ -36,7 +36,7 @@ module _ (l : Ledger) (b d : List ℕ) (held : b ≡ bytes l) where
   pub inserted-row : (rows i : ℕ) (row : Row) → length (l .rows) ≡ rows → i ≤ rows → rows < rowCount
       → d ≡ onPart firstRow (rowStart (rows + 1)) (insertAt (i * rowLength) (recordBytes rowRecord row)) b
       → d ≡ bytes (withRows l (inserted i row (l .rows)))
-  unfolding recordBytes size rowsFrom contractsFrom
+  unfolding recordBytes offsets
   inserted-row rows i row n h m e =
       let end : rows + 1 ≡ suc (length (l .rows)) = omega arith in
       e ∙ ap₂ (λ (k : ℕ) (x : List ℕ). onPart firstRow (rowStart k) (insertAt (i * rowLength) (recordBytes rowRecord row)) x) end held
@@ -46,7 +46,7 @@ module _ (l : Ledger) (b d : List ℕ) (held : b ≡ bytes l) where
   pub removed-row : (rows i : ℕ) → length (l .rows) ≡ rows → i < rows → rows ≤ rowCount
       → d ≡ onPart firstRow (rowStart rows) (removeAt (i * rowLength) rowLength) b
       → d ≡ bytes (withRows l (removed i (l .rows)))
-  unfolding size rowsFrom contractsFrom
+  unfolding offsets
   removed-row rows i n h m e =
       e ∙ ap₂ (λ (k : ℕ) (x : List ℕ). onPart firstRow (rowStart k) (removeAt (i * rowLength) rowLength) x) (sym n) held
       ∙ sym (row-removed rules layout refl l i (omega arith) (omega arith))
@@ -55,7 +55,7 @@ module _ (l : Ledger) (b d : List ℕ) (held : b ≡ bytes l) where
   pub replaced-row : (i : ℕ) (row : Row) → i < length (l .rows) → length (l .rows) ≤ rowCount
       → d ≡ replaceAt (rowStart i) (recordBytes rowRecord row) b
       → d ≡ bytes (withRows l (set (l .rows) i row))
-  unfolding recordBytes size rowsFrom contractsFrom
+  unfolding recordBytes offsets
   replaced-row i row h m e =
       e ∙ ap (replaceAt (rowStart i) (recordBytes rowRecord row)) held ∙ sym (row-replaced rules layout refl l row i h m)
 
@@ -63,7 +63,7 @@ module _ (l : Ledger) (b d : List ℕ) (held : b ≡ bytes l) where
   pub written-contract : (c : ℕ) (k : Contract) → c < contractCount
       → d ≡ replaceAt (firstContract + c * contractLength) (recordBytes contractRecord k) b
       → d ≡ bytes (record { territory = l .territory; contracts = putContract (l .contracts) c k; rows = l .rows; claims = l .claims; pence = l .pence })
-  unfolding recordBytes size contractsFrom
+  unfolding recordBytes offsets
   written-contract c k h e =
       e ∙ ap (replaceAt (firstContract + c * contractLength) (recordBytes contractRecord k)) held ∙ sym (contract-put rules layout l c k h)
 
@@ -75,5 +75,5 @@ module _ (l : Ledger) (b d : List ℕ) (held : b ≡ bytes l) where
 
 -- a fresh ledger's header over zeros
 pub fresh-ledger : (t : ℕ) → bytes (fresh t) ≡ replaceAt 0 (pack (layout .header) (t ∷ 0 ∷ 0 ∷ [])) (replicate ledgerLength 0)
-unfolding size ledgerSize rowsFrom contractsFrom
+unfolding offsets
 fresh-ledger t = fresh-bytes rules layout refl refl t

@@ -17,7 +17,7 @@ use Rattle.records.proofs.OneSlot.{slot-holds, slots-pass, slots-fail}
 use Rattle.rates.specs.declared.Contract.{Contract}
 use Rattle.model.specs.Contracts.{contractIn, contractAt, isThere, isOpen}
 use Rattle.model.specs.Rules.{Rules}
-use Rattle.layout.specs.Layout.{Layout, contractsFrom, rowsFrom, ledgerSize, contractSlots, contractsIn, contractTest}
+use Rattle.layout.specs.Layout.{Layout, firstContract, firstRow, ledgerLength, contractSlots, contractsIn, contractTest}
 use Rattle.layout.specs.Check.{contractsOk}
 use Rattle.layout.proofs.Lawful.{Lawful}
 
@@ -28,38 +28,38 @@ module _ {R : Rules} {L : Layout} (laws : Lawful R L) where
   pub row-whole : WholeBytes (whole (L .row))
   row-whole = laws .layout .row (λ c. none) .aligned
 
-module _ {R : Rules} {L : Layout} (laws : Lawful R L) (b : List ℕ) (long : length b ≡ ledgerSize R L) where
-  pub contracts-inside : contractsFrom R L + R .contractLimit * size (whole (L .contract)) ≤ length b
-  unfolding ledgerSize rowsFrom
+module _ {R : Rules} {L : Layout} (laws : Lawful R L) (b : List ℕ) (long : length b ≡ ledgerLength R L) where
+  pub contracts-inside : firstContract R L + R .contractLimit * size (whole (L .contract)) ≤ length b
+  unfolding ledgerLength firstRow
   contracts-inside = omega arith
 
-  pub rows-inside : rowsFrom R L + rowCount * size (whole (L .row)) ≤ length b
-  unfolding ledgerSize
+  pub rows-inside : firstRow R L + rowCount * size (whole (L .row)) ≤ length b
+  unfolding ledgerLength
   rows-inside = omega arith
 
   -- the test of all contract slots, by each
-  pub contracts-pass : ((c : ℕ) → c < R .contractLimit → slotOk (L .contract) (contractTest R L b) (slotAt (L .contract) (contractsFrom R L) b c) ≡ true) → contractsOk R L b ≡ true
-  contracts-pass t = slots-pass (L .contract) (contract-whole laws) (R .contractLimit) (contractsFrom R L) b contracts-inside (slotOk (L .contract) (contractTest R L b)) t
+  pub contracts-pass : ((c : ℕ) → c < R .contractLimit → slotOk (L .contract) (contractTest R L b) (slotAt (L .contract) (firstContract R L) b c) ≡ true) → contractsOk R L b ≡ true
+  contracts-pass t = slots-pass (L .contract) (contract-whole laws) (R .contractLimit) (firstContract R L) b contracts-inside (slotOk (L .contract) (contractTest R L b)) t
 
-  pub contracts-fail : (c : ℕ) → c < R .contractLimit → slotOk (L .contract) (contractTest R L b) (slotAt (L .contract) (contractsFrom R L) b c) ≡ false → contractsOk R L b ≡ false
-  contracts-fail c h t = slots-fail (L .contract) (contract-whole laws) (R .contractLimit) (contractsFrom R L) b contracts-inside (slotOk (L .contract) (contractTest R L b)) c h t
+  pub contracts-fail : (c : ℕ) → c < R .contractLimit → slotOk (L .contract) (contractTest R L b) (slotAt (L .contract) (firstContract R L) b c) ≡ false → contractsOk R L b ≡ false
+  contracts-fail c h t = slots-fail (L .contract) (contract-whole laws) (R .contractLimit) (firstContract R L) b contracts-inside (slotOk (L .contract) (contractTest R L b)) c h t
 
   module _ (c : ℕ) (h : c < R .contractLimit) where
     -- what it holds
-    contract-held : contractsIn R L b c ≡ slotIn (L .contract) (slotAt (L .contract) (contractsFrom R L) b c)
+    contract-held : contractsIn R L b c ≡ slotIn (L .contract) (slotAt (L .contract) (firstContract R L) b c)
     unfolding contractSlots numbered
-    contract-held = slot-holds (L .contract) (contract-whole laws) (R .contractLimit) (contractsFrom R L) b contracts-inside c h
+    contract-held = slot-holds (L .contract) (contract-whole laws) (R .contractLimit) (firstContract R L) b contracts-inside c h
 
-    pub contract-open : isTaken (L .contract) (slotPart (L .contract) (contractsFrom R L) b c) ≡ isOpen (contractsIn R L b) c
+    pub contract-open : isTaken (L .contract) (slotPart (L .contract) (firstContract R L) b c) ≡ isOpen (contractsIn R L b) c
     unfolding isTaken isOpen slotIn slotAt
-    contract-open = sym (ap isThere contract-held ∙ either (eqb (getD (slotAt (L .contract) (contractsFrom R L) b c) 0 0) 0) (λ z. rw z) (λ z. rw z))
+    contract-open = sym (ap isThere contract-held ∙ either (eqb (getD (slotAt (L .contract) (firstContract R L) b c) 0 0) 0) (λ z. rw z) (λ z. rw z))
 
-    pub contract-read : isOpen (contractsIn R L b) c ≡ true → recordIn (L .contract) (slotPart (L .contract) (contractsFrom R L) b c) ≡ contractAt (contractsIn R L b) c
+    pub contract-read : isOpen (contractsIn R L b) c ≡ true → recordIn (L .contract) (slotPart (L .contract) (firstContract R L) b c) ≡ contractAt (contractsIn R L b) c
     unfolding isOpen contractAt recordIn slotIn slotAt
-    contract-read e = sym (ap contractIn contract-held ∙ go (eqb (getD (slotAt (L .contract) (contractsFrom R L) b c) 0 0) 0) (sym (ap isThere contract-held) ∙ e))
+    contract-read e = sym (ap contractIn contract-held ∙ go (eqb (getD (slotAt (L .contract) (firstContract R L) b c) 0 0) 0) (sym (ap isThere contract-held) ∙ e))
       where
         r : Contract
-        r = L .contract .of (recordFields (L .contract) (slotAt (L .contract) (contractsFrom R L) b c))
+        r = L .contract .of (recordFields (L .contract) (slotAt (L .contract) (firstContract R L) b c))
 
         go : (z : Bool) → isThere (cond z none (some r)) ≡ true → contractIn (cond z none (some r)) ≡ r
         go true f = absurd (false≢true f)

@@ -23,7 +23,7 @@ use Rattle.model.specs.Contracts.{Contracts, putContract}
 use Rattle.model.specs.Rules.{Rules}
 use Rattle.model.specs.Ledger.{Ledger, fresh, withRows}
 use Rattle.layout.proofs.RoundTrips.{length-header, length-contracts}
-use Rattle.layout.specs.Layout.{Layout, contractsFrom, rowsFrom, ledgerSize, headerBytes, contractBytes, rowBytes, bytesOf}
+use Rattle.layout.specs.Layout.{Layout, firstContract, firstRow, ledgerLength, headerBytes, contractBytes, rowBytes, bytesOf}
 
 -- the contracts by number, with k under the number c
 listed-put : (n : ℕ) (cs : Contracts) (c : ℕ) (k : Contract) → listed n (putContract cs c k) ≡ set (listed n cs) c (some k)
@@ -44,8 +44,8 @@ module _ (R : Rules) (L : Layout) where
   front : Ledger → List ℕ
   front l = headerBytes R L l ++ contractBytes R L l
 
-  length-front : (l : Ledger) → length (front l) ≡ rowsFrom R L
-  unfolding front rowsFrom
+  length-front : (l : Ledger) → length (front l) ≡ firstRow R L
+  unfolding front firstRow
   length-front l = length-append (headerBytes R L l) (contractBytes R L l) ∙ ap₂ (λ (m n : ℕ). m + n) (length-header R L l) (length-contracts R L l)
 
   front-rows : (l : Ledger) (xs : List Row) → bytesOf R L (withRows l xs) ≡ front l ++ (arrayOut (L .row) (places rowCount xs) ++ [])
@@ -61,46 +61,46 @@ module _ (R : Rules) (L : Layout) where
     -- the row x comes in before place i
     pub row-inserted : (x : Row) (i : ℕ) → i ≤ length (l .rows) → length (l .rows) < rowCount
         → bytesOf R L (withRows l (inserted i x (l .rows)))
-        ≡ onPart (rowsFrom R L) (rowsFrom R L + suc (length (l .rows)) * size (whole (L .row))) (insertAt (i * size (whole (L .row))) (slotBytes (L .row) (some x))) (bytesOf R L l)
+        ≡ onPart (firstRow R L) (firstRow R L + suc (length (l .rows)) * size (whole (L .row))) (insertAt (i * size (whole (L .row))) (slotBytes (L .row) (some x))) (bytesOf R L l)
     row-inserted x i h m =
         front-rows l (inserted i x (l .rows))
-        ∙ sym (places-insert (L .row) aligned (front l) [] rowCount (rowsFrom R L) (length-front l) (l .rows) x i h m)
-        ∙ ap (onPart (rowsFrom R L) (rowsFrom R L + suc (length (l .rows)) * size (whole (L .row))) (insertAt (i * size (whole (L .row))) (slotBytes (L .row) (some x))))
+        ∙ sym (places-insert (L .row) aligned (front l) [] rowCount (firstRow R L) (length-front l) (l .rows) x i h m)
+        ∙ ap (onPart (firstRow R L) (firstRow R L + suc (length (l .rows)) * size (whole (L .row))) (insertAt (i * size (whole (L .row))) (slotBytes (L .row) (some x))))
         (sym (front-rows l (l .rows)))
 
     -- the row at place i goes
     pub row-removed : (i : ℕ) → i < length (l .rows) → length (l .rows) ≤ rowCount
         → bytesOf R L (withRows l (removed i (l .rows)))
-        ≡ onPart (rowsFrom R L) (rowsFrom R L + length (l .rows) * size (whole (L .row))) (removeAt (i * size (whole (L .row))) (size (whole (L .row)))) (bytesOf R L l)
+        ≡ onPart (firstRow R L) (firstRow R L + length (l .rows) * size (whole (L .row))) (removeAt (i * size (whole (L .row))) (size (whole (L .row)))) (bytesOf R L l)
     row-removed i h m =
         front-rows l (removed i (l .rows))
-        ∙ sym (places-remove (L .row) aligned (front l) [] rowCount (rowsFrom R L) (length-front l) (l .rows) i h m)
-        ∙ ap (onPart (rowsFrom R L) (rowsFrom R L + length (l .rows) * size (whole (L .row))) (removeAt (i * size (whole (L .row))) (size (whole (L .row)))))
+        ∙ sym (places-remove (L .row) aligned (front l) [] rowCount (firstRow R L) (length-front l) (l .rows) i h m)
+        ∙ ap (onPart (firstRow R L) (firstRow R L + length (l .rows) * size (whole (L .row))) (removeAt (i * size (whole (L .row))) (size (whole (L .row)))))
         (sym (front-rows l (l .rows)))
 
     -- the row x comes in the stead of that at place i
     pub row-replaced : (x : Row) (i : ℕ) → i < length (l .rows) → length (l .rows) ≤ rowCount
-        → bytesOf R L (withRows l (set (l .rows) i x)) ≡ replaceAt (rowsFrom R L + i * size (whole (L .row))) (slotBytes (L .row) (some x)) (bytesOf R L l)
+        → bytesOf R L (withRows l (set (l .rows) i x)) ≡ replaceAt (firstRow R L + i * size (whole (L .row))) (slotBytes (L .row) (some x)) (bytesOf R L l)
     row-replaced x i h m =
         front-rows l (set (l .rows) i x)
-        ∙ sym (places-replace (L .row) aligned (front l) [] rowCount (rowsFrom R L) (length-front l) (l .rows) x i h m)
-        ∙ ap (replaceAt (rowsFrom R L + i * size (whole (L .row))) (slotBytes (L .row) (some x))) (sym (front-rows l (l .rows)))
+        ∙ sym (places-replace (L .row) aligned (front l) [] rowCount (firstRow R L) (length-front l) (l .rows) x i h m)
+        ∙ ap (replaceAt (firstRow R L + i * size (whole (L .row))) (slotBytes (L .row) (some x))) (sym (front-rows l (l .rows)))
 
   -- ---- contracts and the header
 
   -- the contract k comes under the number c
   pub contract-put : (l : Ledger) (c : ℕ) (k : Contract) → c < R .contractLimit
       → bytesOf R L (record { territory = l .territory; contracts = putContract (l .contracts) c k; rows = l .rows; claims = l .claims; pence = l .pence })
-      ≡ replaceAt (contractsFrom R L + c * size (whole (L .contract))) (slotBytes (L .contract) (some k)) (bytesOf R L l)
+      ≡ replaceAt (firstContract R L + c * size (whole (L .contract))) (slotBytes (L .contract) (some k)) (bytesOf R L l)
   unfolding bytesOf
   contract-put l c k h =
       ap (λ (os : List (Option Contract)). headerBytes R L l ++ (arrayOut (L .contract) os ++ rowBytes R L l)) (listed-put (R .contractLimit) (l .contracts) c k)
-      ∙ sym (array-replace (L .contract) (headerBytes R L l) (rowBytes R L l) (listed (R .contractLimit) (l .contracts)) (some k) c (contractsFrom R L) (length-header R L l)
+      ∙ sym (array-replace (L .contract) (headerBytes R L l) (rowBytes R L l) (listed (R .contractLimit) (l .contracts)) (some k) c (firstContract R L) (length-header R L l)
       (omega (arith, length-listed (R .contractLimit) (l .contracts))))
 
   -- the header is written over another
-  header-written : (vs old rest : List ℕ) → length old ≡ contractsFrom R L → pack (L .header) vs ++ rest ≡ replaceAt 0 (pack (L .header) vs) (old ++ rest)
-  unfolding contractsFrom
+  header-written : (vs old rest : List ℕ) → length old ≡ firstContract R L → pack (L .header) vs ++ rest ≡ replaceAt 0 (pack (L .header) vs) (old ++ rest)
+  unfolding firstContract
   header-written vs old rest h = sym (replace-pieces [] old rest (pack (L .header) vs) 0 refl (length-pack (L .header) vs ∙ sym h))
 
   -- the header's numbers change
@@ -123,11 +123,11 @@ module _ (R : Rules) (L : Layout) where
         ∙ replicate-append-replicate (R .contractLimit * size (whole (L .contract))) (rowCount * size (whole (L .row))) 0
 
     -- it is its header over zeros
-    pub fresh-bytes : bytesOf R L (fresh t) ≡ replaceAt 0 (pack (L .header) (t ∷ 0 ∷ 0 ∷ [])) (replicate (ledgerSize R L) 0)
-    unfolding bytesOf fresh ledgerSize rowsFrom
+    pub fresh-bytes : bytesOf R L (fresh t) ≡ replaceAt 0 (pack (L .header) (t ∷ 0 ∷ 0 ∷ [])) (replicate (ledgerLength R L) 0)
+    unfolding bytesOf fresh ledgerLength firstRow
     fresh-bytes =
         let n : ℕ = R .contractLimit * size (whole (L .contract)) + rowCount * size (whole (L .row)) in
-        let sum : contractsFrom R L + n ≡ ledgerSize R L = omega arith in
+        let sum : firstContract R L + n ≡ ledgerLength R L = omega arith in
         ap (λ (b : List ℕ). headerBytes R L (fresh t) ++ b) free-bytes
-        ∙ header-written (t ∷ 0 ∷ 0 ∷ []) (replicate (contractsFrom R L) 0) (replicate n 0) (length-replicate (contractsFrom R L) 0)
-        ∙ ap (replaceAt 0 (headerBytes R L (fresh t))) (replicate-append-replicate (contractsFrom R L) n 0 ∙ ap (λ (k : ℕ). replicate k 0) sum)
+        ∙ header-written (t ∷ 0 ∷ 0 ∷ []) (replicate (firstContract R L) 0) (replicate n 0) (length-replicate (firstContract R L) 0)
+        ∙ ap (replaceAt 0 (headerBytes R L (fresh t))) (replicate-append-replicate (firstContract R L) n 0 ∙ ap (λ (k : ℕ). replicate k 0) sum)

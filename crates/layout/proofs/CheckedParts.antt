@@ -15,7 +15,7 @@ use Rattle.records.specs.Places.{held, inOrder}
 use Rattle.records.specs.Pairs.{everyPair}
 use Rattle.model.specs.Rules.{Rules}
 use Rattle.model.specs.Ledger.{due}
-use Rattle.layout.specs.Layout.{Layout, rowsFrom, ledgerSize, claimsIn, penceIn, rowTest, contractsIn, rowSlots, comesBefore, wellFormed, ledgerOf}
+use Rattle.layout.specs.Layout.{Layout, firstRow, ledgerLength, claimsIn, penceIn, rowTest, contractsIn, rowSlots, comesBefore, wellFormed, ledgerOf}
 use Rattle.layout.proofs.LayoutLaws.{are-test}
 use Rattle.layout.specs.declared.Checked.the-variants.{Malformed, WellFormed}
 use Rattle.layout.specs.Check.{checkedOf, headerOk, contractsOk, rowsCheckedOf}
@@ -49,13 +49,13 @@ module _ (R : Rules) (L : Layout) (b : List ℕ) where
   unfolding checkedOf
   refused e = rw e
 
-  pub other-length : (length b ≡ ledgerSize R L → ⊥) → Malformed ≡ checkedOf R L b
+  pub other-length : (length b ≡ ledgerLength R L → ⊥) → Malformed ≡ checkedOf R L b
   unfolding wellFormed
-  other-length n = refused (rw (no-eq (length b) (ledgerSize R L) n))
+  other-length n = refused (rw (no-eq (length b) (ledgerLength R L) n))
 
-  module _ (bytes : AreBytes b) (l : length b ≡ ledgerSize R L) where
-    long : eqb (length b) (ledgerSize R L) ≡ true
-    long = yes-eq (length b) (ledgerSize R L) l
+  module _ (bytes : AreBytes b) (l : length b ≡ ledgerLength R L) where
+    long : eqb (length b) (ledgerLength R L) ≡ true
+    long = yes-eq (length b) (ledgerLength R L) l
 
     -- the tests of claims and pence, and those of the contracts, the rows and their order
     abbrev claimsTested : Bool
@@ -65,7 +65,7 @@ module _ (R : Rules) (L : Layout) (b : List ℕ) where
     penceTested = not (eqb (claimsIn R L b) 0) || eqb (penceIn R L b) 0
 
     abbrev slotsTested : Bool
-    slotsTested = every (map (slotOk (L .row) (rowTest R L (contractsIn R L b))) (slots (L .row) rowCount (drop (rowsFrom R L) b)))
+    slotsTested = every (map (slotOk (L .row) (rowTest R L (contractsIn R L b))) (slots (L .row) rowCount (drop (firstRow R L) b)))
 
     abbrev orderTested : Bool
     orderTested = everyPair (inOrder comesBefore) (rowSlots R L b)

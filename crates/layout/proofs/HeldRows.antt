@@ -15,7 +15,7 @@ use Rattle.records.proofs.Scan.{recordOf}
 use Rattle.records.proofs.Places.{place-held, places-held}
 use Rattle.model.specs.declared.Row.{Row}
 use Rattle.model.specs.Rules.{Rules}
-use Rattle.layout.specs.Layout.{Layout, rowsFrom, ledgerSize, rowSlots, comesBefore, wellFormed, ledgerOf}
+use Rattle.layout.specs.Layout.{Layout, firstRow, ledgerLength, rowSlots, comesBefore, wellFormed, ledgerOf}
 use Rattle.layout.specs.Check.{rowSlotAt, rowAt}
 use Rattle.layout.proofs.LayoutLaws.{Tested, tested}
 use Rattle.layout.proofs.Lawful.{Lawful}
@@ -29,7 +29,7 @@ module _ {R : Rules} {L : Layout} (laws : Lawful R L) (b : List ℕ) (f : wellFo
   tests : Tested R L b
   tests = tested R L b f
 
-  pub formed-length : length b ≡ ledgerSize R L
+  pub formed-length : length b ≡ ledgerLength R L
   formed-length = tests .long
 
   pub rows-most : length rows ≤ rowCount
@@ -37,7 +37,7 @@ module _ {R : Rules} {L : Layout} (laws : Lawful R L) (b : List ℕ) (f : wellFo
 
   slot-held : (i : ℕ) → i < rowCount → getD (rowSlots R L b) i none ≡ slotIn (L .row) (rowSlotAt R L b i)
   unfolding rowSlots
-  slot-held i h = slot-holds (L .row) (row-whole laws) rowCount (rowsFrom R L) b (rows-inside laws b formed-length) i h
+  slot-held i h = slot-holds (L .row) (row-whole laws) rowCount (firstRow R L) b (rows-inside laws b formed-length) i h
 
   pub row-held : (i : ℕ) (d : Row) → i < length rows → rowAt R L b i ≡ getD rows i d
   unfolding ledgerOf slotIn rowAt

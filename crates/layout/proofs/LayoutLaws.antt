@@ -21,7 +21,7 @@ use Rattle.model.specs.declared.Row.{Row}
 use Rattle.model.specs.Contracts.{Contracts, contractOf, isOpen}
 use Rattle.model.specs.Rules.{Rules, partOfDue}
 use Rattle.model.specs.WellFormed.{RowOk}
-use Rattle.layout.specs.Layout.{Layout, rowTests, rowOk, comesBefore, contractsFrom, rowsFrom, ledgerSize, claimsIn, penceIn, contractsIn, rowSlots, contractTest, rowTest, wellFormedTests, wellFormed}
+use Rattle.layout.specs.Layout.{Layout, rowTests, rowOk, comesBefore, firstContract, firstRow, ledgerLength, claimsIn, penceIn, contractsIn, rowSlots, contractTest, rowTest, wellFormedTests, wellFormed}
 
 pub record LayoutLaws (R : Rules) (L : Layout) : Type 0 where
   -- the header's three fields hold what a well-formed ledger has, and no more
@@ -87,12 +87,12 @@ no-pence-test c p f = either (eqb c 0) (λ e. rw e (yes-eq p 0 (f (eq-yes c 0 e)
 
 -- the tests of a well-formed ledger, by name
 pub record Tested (R : Rules) (L : Layout) (b : List ℕ) : Type 0 where
-  pub long : length b ≡ ledgerSize R L
+  pub long : length b ≡ ledgerLength R L
   pub bytes : AreBytes b
   pub claims : claimsIn R L b ≤ mostClaims
   pub pence : claimsIn R L b ≡ 0 → penceIn R L b ≡ 0
-  pub contracts : every (map (slotOk (L .contract) (contractTest R L b)) (slots (L .contract) (R .contractLimit) (drop (contractsFrom R L) b))) ≡ true
-  pub rows : every (map (slotOk (L .row) (rowTest R L (contractsIn R L b))) (slots (L .row) rowCount (drop (rowsFrom R L) b))) ≡ true
+  pub contracts : every (map (slotOk (L .contract) (contractTest R L b)) (slots (L .contract) (R .contractLimit) (drop (firstContract R L) b))) ≡ true
+  pub rows : every (map (slotOk (L .row) (rowTest R L (contractsIn R L b))) (slots (L .row) rowCount (drop (firstRow R L) b))) ≡ true
   pub order : everyPair (inOrder comesBefore) (rowSlots R L b) ≡ true
 
 module _ (R : Rules) (L : Layout) (b : List ℕ) where
@@ -101,7 +101,7 @@ module _ (R : Rules) (L : Layout) (b : List ℕ) where
   tested e =
       let at = every-at (wellFormedTests R L b) e in
       record {
-        long = eq-yes (length b) (ledgerSize R L) (at 0);
+        long = eq-yes (length b) (ledgerLength R L) (at 0);
         bytes = are-fact b (at 1);
         claims = le-yes (claimsIn R L b) mostClaims (at 2);
         pence = no-pence (claimsIn R L b) (penceIn R L b) (at 3);
@@ -113,7 +113,7 @@ module _ (R : Rules) (L : Layout) (b : List ℕ) where
   pub tests-passed : Tested R L b → wellFormed R L b ≡ true
   unfolding wellFormed
   tests-passed s = every-all (wellFormedTests R L b) (
-    yes-eq (length b) (ledgerSize R L) (s .long),
+    yes-eq (length b) (ledgerLength R L) (s .long),
     (
       are-test b (s .bytes),
       (

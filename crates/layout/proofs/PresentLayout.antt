@@ -19,16 +19,18 @@ use Rattle.model.specs.WellFormed.{RowOk}
 use Rattle.model.proofs.Codes.{fuel-of-code, kind-of-code, certificate-of-code}
 use Rattle.model.proofs.AcceptedBill.{span-days, kind-low, days-low, effective-low}
 use Rattle.model.proofs.PresentRules.{contract-ranges, contract-numbers, bill-ranges}
-use Rattle.layout.specs.Layout.{rowTest, contractsFrom, rowsFrom, ledgerSize}
+use Rattle.layout.specs.Layout.{rowTest}
+use Rattle.layout.specs.Layout as Layout
 use Rattle.layout.specs.PresentLayout.{contractRecord, rowRecord}
+use Rattle.layout.proofs.Lawful.{offsets}
 use Rattle.layout.specs.Offsets.{firstContract, firstRow, ledgerLength}
 use Rattle.layout.specs.Present.{rules, layout}
 use Rattle.layout.proofs.LayoutLaws.{LayoutLaws, row-facts}
 use Rattle.layout.proofs.RoundTrips.{listed-elements}
 
 -- the parts begin and end by the layout
-pub packed-offsets : (contractsFrom rules layout ≡ firstContract) × ((rowsFrom rules layout ≡ firstRow) × (ledgerSize rules layout ≡ ledgerLength))
-unfolding ledgerSize rowsFrom contractsFrom size
+pub packed-offsets : (Layout.firstContract rules layout ≡ firstContract) × ((Layout.firstRow rules layout ≡ firstRow) × (Layout.ledgerLength rules layout ≡ ledgerLength))
+unfolding offsets
 packed-offsets = (refl, (refl, refl))
 
 -- ---- contracts

@@ -35,7 +35,7 @@ use Rattle.model.specs.WellFormed.{RowOk, WellFormed}
 use Rattle.model.specs.Format.{FormatLaws}
 use Rattle.model.proofs.RowOrder.{Span}
 use Rattle.model.proofs.RowBounds.{row-span}
-use Rattle.layout.specs.Layout.{Layout, rowOk, comesBefore, contractsFrom, rowsFrom, ledgerSize, territoryIn, claimsIn, penceIn, contractSlots, contractsIn, rowSlots, contractTest, rowTest, wellFormed, ledgerOf, headerBytes, contractBytes, rowBytes, bytesOf, format}
+use Rattle.layout.specs.Layout.{Layout, rowOk, comesBefore, firstContract, firstRow, ledgerLength, territoryIn, claimsIn, penceIn, contractSlots, contractsIn, rowSlots, contractTest, rowTest, wellFormed, ledgerOf, headerBytes, contractBytes, rowBytes, bytesOf, format}
 use Rattle.layout.proofs.Order.{pairs-apart, apart-pairs}
 use Rattle.layout.proofs.Lawful.{Lawful}
 use Rattle.layout.proofs.LayoutLaws.{row-facts, row-test, Tested, tested, tests-passed}
@@ -97,8 +97,8 @@ listed-elements (suc n) (x ∷ v) e = ap (λ (l : List ℕ). x ∷ l) (listed-el
 
 -- how long the parts are, whatever the facts or the bytes
 module _ (R : Rules) (L : Layout) where
-  pub length-header : (l : Ledger) → length (headerBytes R L l) ≡ contractsFrom R L
-  unfolding contractsFrom
+  pub length-header : (l : Ledger) → length (headerBytes R L l) ≡ firstContract R L
+  unfolding firstContract
   length-header l = length-pack (L .header) (l .territory ∷ l .claims ∷ l .pence ∷ [])
 
   pub length-contracts : (l : Ledger) → length (contractBytes R L l) ≡ R .contractLimit * size (whole (L .contract))
@@ -106,11 +106,11 @@ module _ (R : Rules) (L : Layout) where
 
   pub length-rowSlots : (b : List ℕ) → length (rowSlots R L b) ≡ rowCount
   unfolding rowSlots
-  length-rowSlots b = length-arrayIn (L .row) rowCount (drop (rowsFrom R L) b)
+  length-rowSlots b = length-arrayIn (L .row) rowCount (drop (firstRow R L) b)
 
   length-contractSlots : (b : List ℕ) → length (contractSlots R L b) ≡ R .contractLimit
   unfolding contractSlots
-  length-contractSlots b = length-arrayIn (L .contract) (R .contractLimit) (drop (contractsFrom R L) b)
+  length-contractSlots b = length-arrayIn (L .contract) (R .contractLimit) (drop (firstContract R L) b)
 
 module _ {R : Rules} {L : Layout} (laws : Lawful R L) where
   -- a row's facts and its numbers' test
@@ -125,8 +125,8 @@ module _ {R : Rules} {L : Layout} (laws : Lawful R L) where
     length-rows : length (rowBytes R L l) ≡ rowCount * size (whole (L .row))
     length-rows = length-arrayOut (L .row) (places rowCount (l .rows)) ∙ ap (λ (n : ℕ). n * size (whole (L .row))) (length-places rowCount (l .rows) (f .count))
 
-    pub length-bytesOf : length (bytesOf R L l) ≡ ledgerSize R L
-    unfolding bytesOf ledgerSize rowsFrom
+    pub length-bytesOf : length (bytesOf R L l) ≡ ledgerLength R L
+    unfolding bytesOf ledgerLength firstRow
     length-bytesOf =
         length-append (headerBytes R L l) (contractBytes R L l ++ rowBytes R L l) ∙ ap (λ (n : ℕ). length (headerBytes R L l) + n) (length-append (contractBytes R L l) (rowBytes R L l))
         ∙ omega (arith, length-header R L l, length-contracts R L l, length-rows)
@@ -137,18 +137,18 @@ module _ {R : Rules} {L : Layout} (laws : Lawful R L) where
         (are-pack (L .header) (l .territory ∷ l .claims ∷ l .pence ∷ []))
         (are-append (contractBytes R L l) (rowBytes R L l) (are-arrayOut (L .contract) (listed (R .contractLimit) (l .contracts))) (are-arrayOut (L .row) (places rowCount (l .rows))))
 
-    after-header : drop (contractsFrom R L) (bytesOf R L l) ≡ contractBytes R L l ++ rowBytes R L l
+    after-header : drop (firstContract R L) (bytesOf R L l) ≡ contractBytes R L l ++ rowBytes R L l
     unfolding bytesOf
-    after-header = drop-at (headerBytes R L l) (contractBytes R L l ++ rowBytes R L l) (contractsFrom R L) (length-header R L l)
+    after-header = drop-at (headerBytes R L l) (contractBytes R L l ++ rowBytes R L l) (firstContract R L) (length-header R L l)
 
-    after-contracts : drop (rowsFrom R L) (bytesOf R L l) ≡ rowBytes R L l ++ []
-    unfolding rowsFrom
+    after-contracts : drop (firstRow R L) (bytesOf R L l) ≡ rowBytes R L l ++ []
+    unfolding firstRow
     after-contracts =
-        sym (drop-drop (R .contractLimit * size (whole (L .contract))) (contractsFrom R L) (bytesOf R L l)) ∙ ap (drop (R .contractLimit * size (whole (L .contract)))) after-header
+        sym (drop-drop (R .contractLimit * size (whole (L .contract))) (firstContract R L) (bytesOf R L l)) ∙ ap (drop (R .contractLimit * size (whole (L .contract)))) after-header
         ∙ drop-at (contractBytes R L l) (rowBytes R L l) (R .contractLimit * size (whole (L .contract))) (length-contracts R L l) ∙ sym (append-nil (rowBytes R L l))
 
     header-back : unpack (L .header) (bytesOf R L l) ≡ l .territory ∷ l .claims ∷ l .pence ∷ []
-    unfolding bytesOf contractsFrom
+    unfolding bytesOf firstContract
     header-back =
         unpack-append (headerBytes R L l) (contractBytes R L l ++ rowBytes R L l) (L .header) (laws .layout .aligned) (length-header R L l)
         ∙ unpack-pack (L .header) (l .territory ∷ l .claims ∷ l .pence ∷ []) (laws .layout .aligned) (laws .layout .fits (l .territory) (l .claims) (l .pence) (f .territory) (f .claims) (f .pence))
@@ -197,13 +197,13 @@ module _ {R : Rules} {L : Layout} (laws : Lawful R L) where
       pence = pence-back i;
     }
 
-    contracts-tested : every (map (slotOk (L .contract) (contractTest R L (bytesOf R L l))) (slots (L .contract) (R .contractLimit) (drop (contractsFrom R L) (bytesOf R L l)))) ≡ true
+    contracts-tested : every (map (slotOk (L .contract) (contractTest R L (bytesOf R L l))) (slots (L .contract) (R .contractLimit) (drop (firstContract R L) (bytesOf R L l)))) ≡ true
     contracts-tested =
         ap₂ (λ (t : ℕ) (d : List ℕ). every (map (slotOk (L .contract) (L .contractRanges t)) (slots (L .contract) (R .contractLimit) d))) territory-back after-header
         ∙ ok-arrayOut (L .contract) (L .contractRanges (l .territory)) (laws .layout .contract (l .territory)) (R .contractLimit) (listed (R .contractLimit) (l .contracts)) (rowBytes R L l)
         (length-listed (R .contractLimit) (l .contracts)) contracts-pass
 
-    rows-tested : every (map (slotOk (L .row) (rowTest R L (contractsIn R L (bytesOf R L l)))) (slots (L .row) rowCount (drop (rowsFrom R L) (bytesOf R L l)))) ≡ true
+    rows-tested : every (map (slotOk (L .row) (rowTest R L (contractsIn R L (bytesOf R L l)))) (slots (L .row) rowCount (drop (firstRow R L) (bytesOf R L l)))) ≡ true
     rows-tested =
         ap₂ (λ (cs : Contracts) (d : List ℕ). every (map (slotOk (L .row) (rowTest R L cs)) (slots (L .row) rowCount d))) contracts-back after-contracts
         ∙ ok-arrayOut (L .row) (rowTest R L (l .contracts)) (laws .layout .row (l .contracts)) rowCount (places rowCount (l .rows)) [] (length-places rowCount (l .rows) (f .count)) rows-pass
@@ -232,11 +232,11 @@ module _ {R : Rules} {L : Layout} (laws : Lawful R L) where
 
     contracts-passed : every (map (passes (L .contract) (contractTest R L b)) (contractSlots R L b)) ≡ true
     unfolding contractSlots
-    contracts-passed = passes-arrayIn (L .contract) (contractTest R L b) (laws .layout .contract (territoryIn R L b)) (R .contractLimit) (drop (contractsFrom R L) b) (s .contracts)
+    contracts-passed = passes-arrayIn (L .contract) (contractTest R L b) (laws .layout .contract (territoryIn R L b)) (R .contractLimit) (drop (firstContract R L) b) (s .contracts)
 
     rows-passed : every (map (passes (L .row) (rowTest R L (contractsIn R L b))) (rowSlots R L b)) ≡ true
     unfolding rowSlots
-    rows-passed = passes-arrayIn (L .row) (rowTest R L (contractsIn R L b)) (laws .layout .row (contractsIn R L b)) rowCount (drop (rowsFrom R L) b) (s .rows)
+    rows-passed = passes-arrayIn (L .row) (rowTest R L (contractsIn R L b)) (laws .layout .row (contractsIn R L b)) rowCount (drop (firstRow R L) b) (s .rows)
 
     held-rows : All (RowOk R (contractsIn R L b)) (held (rowSlots R L b))
     held-rows = all-map _ (RowOk R (contractsIn R L b)) (row-passed (contractsIn R L b)) (held (rowSlots R L b)) (held-pass (L .row) (rowTest R L (contractsIn R L b)) (rowSlots R L b) rows-passed)
@@ -258,39 +258,39 @@ module _ {R : Rules} {L : Layout} (laws : Lawful R L) where
           (pairs-held comesBefore (rowSlots R L b) (s .order));
     }
 
-    all-of-it : contractsFrom R L + (R .contractLimit * size (whole (L .contract)) + rowCount * size (whole (L .row))) ≡ length b
-    unfolding ledgerSize rowsFrom
+    all-of-it : firstContract R L + (R .contractLimit * size (whole (L .contract)) + rowCount * size (whole (L .row))) ≡ length b
+    unfolding ledgerLength firstRow
     all-of-it = omega (arith, s .long)
 
-    header-again : headerBytes R L (ledgerOf R L b) ≡ take (contractsFrom R L) b
-    unfolding ledgerOf contractsFrom
+    header-again : headerBytes R L (ledgerOf R L b) ≡ take (firstContract R L) b
+    unfolding ledgerOf firstContract
     header-again =
         ap (pack (L .header)) (header-values ∙ sym (ap (unpack (L .header)) (take-append-drop (size (L .header)) b))
         ∙ unpack-append (take (size (L .header)) b) (drop (size (L .header)) b) (L .header) (laws .layout .aligned) (length-take-le (size (L .header)) b (omega (arith, all-of-it))))
         ∙ pack-unpack (L .header) (take (size (L .header)) b) (laws .layout .aligned) (are-take (size (L .header)) b (s .bytes)) (length-take-le (size (L .header)) b (omega (arith, all-of-it)))
 
-    contracts-again : contractBytes R L (ledgerOf R L b) ≡ take (R .contractLimit * size (whole (L .contract))) (drop (contractsFrom R L) b)
+    contracts-again : contractBytes R L (ledgerOf R L b) ≡ take (R .contractLimit * size (whole (L .contract))) (drop (firstContract R L) b)
     unfolding ledgerOf contractSlots
     contracts-again = ap (arrayOut (L .contract)) (listed-numbered (R .contractLimit) (contractSlots R L b) (length-contractSlots R L b))
-        ∙ array-out-in (L .contract) (contractTest R L b) (laws .layout .contract (territoryIn R L b)) (R .contractLimit) (drop (contractsFrom R L) b)
-        (omega (arith, all-of-it, length-drop (contractsFrom R L) b)) (are-drop (contractsFrom R L) b (s .bytes)) (s .contracts)
+        ∙ array-out-in (L .contract) (contractTest R L b) (laws .layout .contract (territoryIn R L b)) (R .contractLimit) (drop (firstContract R L) b)
+        (omega (arith, all-of-it, length-drop (firstContract R L) b)) (are-drop (firstContract R L) b (s .bytes)) (s .contracts)
 
-    rows-again : rowBytes R L (ledgerOf R L b) ≡ drop (rowsFrom R L) b
-    unfolding ledgerOf rowSlots rowsFrom
+    rows-again : rowBytes R L (ledgerOf R L b) ≡ drop (firstRow R L) b
+    unfolding ledgerOf rowSlots firstRow
     rows-again =
         ap (λ (n : ℕ). arrayOut (L .row) (places n (held (rowSlots R L b)))) (sym (length-rowSlots R L b))
         ∙ ap (arrayOut (L .row)) (places-held comesBefore (rowSlots R L b) (s .order))
-        ∙ array-out-in (L .row) (rowTest R L (contractsIn R L b)) (laws .layout .row (contractsIn R L b)) rowCount (drop (rowsFrom R L) b)
-        (omega (arith, all-of-it, length-drop (rowsFrom R L) b)) (are-drop (rowsFrom R L) b (s .bytes)) (s .rows)
-        ∙ take-all (rowCount * size (whole (L .row))) (drop (rowsFrom R L) b) (omega (arith, all-of-it, length-drop (rowsFrom R L) b))
+        ∙ array-out-in (L .row) (rowTest R L (contractsIn R L b)) (laws .layout .row (contractsIn R L b)) rowCount (drop (firstRow R L) b)
+        (omega (arith, all-of-it, length-drop (firstRow R L) b)) (are-drop (firstRow R L) b (s .bytes)) (s .rows)
+        ∙ take-all (rowCount * size (whole (L .row))) (drop (firstRow R L) b) (omega (arith, all-of-it, length-drop (firstRow R L) b))
 
     pub packed-unpacked : bytesOf R L (ledgerOf R L b) ≡ b
-    unfolding bytesOf rowsFrom
+    unfolding bytesOf firstRow
     packed-unpacked =
         ap₂ (λ (x y : List ℕ). x ++ y) header-again
-        (ap₂ (λ (x y : List ℕ). x ++ y) contracts-again (rows-again ∙ sym (drop-drop (R .contractLimit * size (whole (L .contract))) (contractsFrom R L) b))
-        ∙ take-append-drop (R .contractLimit * size (whole (L .contract))) (drop (contractsFrom R L) b))
-        ∙ take-append-drop (contractsFrom R L) b
+        (ap₂ (λ (x y : List ℕ). x ++ y) contracts-again (rows-again ∙ sym (drop-drop (R .contractLimit * size (whole (L .contract))) (firstContract R L) b))
+        ∙ take-append-drop (R .contractLimit * size (whole (L .contract))) (drop (firstContract R L) b))
+        ∙ take-append-drop (firstContract R L) b
 
   pub format-laws : FormatLaws R (format R L)
   format-laws = record {

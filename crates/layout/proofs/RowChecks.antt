@@ -27,7 +27,7 @@ use Rattle.model.specs.Rules.{Rules}
 use Rattle.model.specs.WellFormed.{before}
 use Rattle.model.proofs.RowOrder.{Span}
 use Rattle.model.proofs.RowBounds.{row-span, amount-low}
-use Rattle.layout.specs.Layout.{Layout, rowOk, comesBefore, rowsFrom, ledgerSize, contractsIn, rowSlots}
+use Rattle.layout.specs.Layout.{Layout, rowOk, comesBefore, firstRow, ledgerLength, contractsIn, rowSlots}
 use Rattle.layout.specs.declared.Checked.{Checked}
 use Rattle.layout.specs.declared.Checked.the-variants.{Malformed, WellFormed}
 use Rattle.layout.specs.declared.RowCheck.{RowCheck}
@@ -46,7 +46,7 @@ passed R L cs = found (L .row) (rowOk R cs) firstKey nextKey (λ x. x .amount) M
 pub record Passing (R : Rules) (L : Layout) (b : List ℕ) (i least due : ℕ) : Type 0 where
   pub place : i ≤ rowCount
   pub low : due ≤ i * highestAmount
-  rest : passed R L (contractsIn R L b) least i due (drop i (slots (L .row) rowCount (drop (rowsFrom R L) b))) ≡ rowsCheckedOf R L b
+  rest : passed R L (contractsIn R L b) least i due (drop i (slots (L .row) rowCount (drop (firstRow R L) b))) ≡ rowsCheckedOf R L b
 
 pub record GoodRow (R : Rules) (L : Layout) (cs : Contracts) (least : ℕ) (v : List ℕ) (next amount : ℕ) : Type 0 where
   pub taken : eqb (getD v 0 0) 0 ≡ false
@@ -140,7 +140,7 @@ module _ {R : Rules} {L : Layout} (laws : Lawful R L) where
     cs = contractsIn R L b
 
     abbrev numbers : List (List ℕ)
-    numbers = slots (L .row) rowCount (drop (rowsFrom R L) b)
+    numbers = slots (L .row) rowCount (drop (firstRow R L) b)
 
     pub pass-begins : Passing R L b 0 0 0
     unfolding found rowsCheckedOf rowSlots arrayIn
@@ -159,13 +159,13 @@ module _ {R : Rules} {L : Layout} (laws : Lawful R L) where
       pub pass-ends : rowCount ≤ i → WellFormed rowCount due ≡ rowsCheckedOf R L b
       pass-ends h =
           let e : i ≡ rowCount = omega (arith, p .place) in
-          let n : rowCount ≡ length numbers = sym (length-slots (L .row) rowCount (drop (rowsFrom R L) b)) in
+          let n : rowCount ≡ length numbers = sym (length-slots (L .row) rowCount (drop (firstRow R L) b)) in
           let z : drop i numbers ≡ [] = ap (λ (k : ℕ). drop k numbers) (e ∙ n) ∙ drop-length numbers in
           ap (λ (k : ℕ). WellFormed k due) (sym e)
           ∙ sym (found-end (L .row) (rowOk R cs) firstKey nextKey (λ x. x .amount) Malformed WellFormed least i due)
           ∙ ap (passed R L cs least i due) (sym z) ∙ p .rest
 
-      module _ (long : length b ≡ ledgerSize R L) (h : i < rowCount) where
+      module _ (long : length b ≡ ledgerLength R L) (h : i < rowCount) where
         abbrev v : List ℕ
         v = rowSlotAt R L b i
 
@@ -173,7 +173,7 @@ module _ {R : Rules} {L : Layout} (laws : Lawful R L) where
         vs = drop (i + 1) numbers
 
         next-slots : drop i numbers ≡ v ∷ vs
-        next-slots = slots-next (L .row) (row-whole laws) rowCount (rowsFrom R L) b (rows-inside laws b long) i h
+        next-slots = slots-next (L .row) (row-whole laws) rowCount (firstRow R L) b (rows-inside laws b long) i h
 
         here : passed R L cs least i due (v ∷ vs) ≡ rowsCheckedOf R L b
         here = ap (passed R L cs least i due) (sym next-slots) ∙ p .rest
@@ -210,11 +210,11 @@ module _ {R : Rules} {L : Layout} (laws : Lawful R L) where
         -- a free slot: zeros follow to the end, or not
         module _ (bytes : AreBytes b) (f : Free ≡ rowCheckOf R L cs least v) where
           abbrev restZero : Bool
-          restZero = zeroAt (rowsFrom R L + i * size (whole (L .row))) (ledgerSize R L - (rowsFrom R L + i * size (whole (L .row)))) b
+          restZero = zeroAt (firstRow R L + i * size (whole (L .row))) (ledgerLength R L - (firstRow R L + i * size (whole (L .row)))) b
 
           zeros : restZero ≡ every (map allZero (v ∷ vs))
-          unfolding ledgerSize
-          zeros = zero-rest (L .row) (row-whole laws) rowCount (rowsFrom R L) b (rows-inside laws b long) i bytes h ∙ ap (λ (ws : List (List ℕ)). every (map allZero ws)) next-slots
+          unfolding ledgerLength
+          zeros = zero-rest (L .row) (row-whole laws) rowCount (firstRow R L) b (rows-inside laws b long) i bytes h ∙ ap (λ (ws : List (List ℕ)). every (map allZero ws)) next-slots
 
           pub rows-end : restZero ≡ true → WellFormed i due ≡ rowsCheckedOf R L b
           rows-end z = sym (found-free (L .row) (rowOk R cs) firstKey nextKey (λ x. x .amount) Malformed WellFormed least i due v vs (check-says cs least v f) (sym zeros ∙ z)) ∙ here

@@ -6,14 +6,14 @@ use Rattle.model.proofs.HoldsFacts.{bytes-hold}
 use Rattle.model.proofs.SheetAnswers.{bytes-answer-from-the-sheet, accepted-claim-leaves-rest}
 use Rattle.model.proofs.Postings.{bytes-same-as-postings}
 use Rattle.model.proofs.BytesBalance.{bytes-balance, bytes-well-formed}
-use Rattle.layout.specs.Layout.{contractsFrom, rowsFrom, ledgerSize, format}
+use Rattle.layout.specs.Layout.{firstContract, firstRow, ledgerLength, format}
 use Rattle.layout.specs.Present.{rules, layout, machine}
 use Rattle.layout.specs.Theorems.{PackedSize, RoundTrips, DemandThree, PackedHistoriesHoldTheirFacts, PackedAnswersFromTheSheet, PackedSameAsPostings, NumberTwoMeetsNoCall}
 use Rattle.layout.proofs.RoundTrips.{unpacked-packed, well-formed-exactly}
 use Rattle.layout.proofs.Present.{present, format-laws, repacked}
 
 pub packed-size : PackedSize
-unfolding ledgerSize rowsFrom contractsFrom size
+unfolding ledgerLength firstRow firstContract size
 packed-size = refl
 
 pub round-trips : RoundTrips

@@ -16,7 +16,7 @@ use Rattle.model.specs.declared.Row.{Row}
 use Rattle.model.specs.Contracts.{Contracts}
 use Rattle.model.specs.Rules.{Rules}
 use Rattle.model.specs.Ledger.{due}
-use Rattle.layout.specs.Layout.{Layout, contractsFrom, rowsFrom, claimsIn, penceIn, contractsIn, rowSlots, contractTest, rowOk, rowTest, comesBefore, wellFormed, ledgerOf}
+use Rattle.layout.specs.Layout.{Layout, firstContract, firstRow, claimsIn, penceIn, contractsIn, rowSlots, contractTest, rowOk, rowTest, comesBefore, wellFormed, ledgerOf}
 use Rattle.layout.specs.declared.Checked.{Checked}
 use Rattle.layout.specs.declared.Checked.the-variants.{Malformed, WellFormed}
 use Rattle.layout.specs.declared.RowCheck.{RowCheck}
@@ -44,11 +44,11 @@ module _ (R : Rules) (L : Layout) where
 
   -- the tests of all contracts
   abbrev pub contractsOk : List ℕ → Bool
-  contractsOk b = every (map (slotOk (L .contract) (contractTest R L b)) (slots (L .contract) (R .contractLimit) (drop (contractsFrom R L) b)))
+  contractsOk b = every (map (slotOk (L .contract) (contractTest R L b)) (slots (L .contract) (R .contractLimit) (drop (firstContract R L) b)))
 
   -- the numbers of row slot i, and its row
   abbrev pub rowSlotAt : List ℕ → ℕ → List ℕ
-  rowSlotAt b i = slotAt (L .row) (rowsFrom R L) b i
+  rowSlotAt b i = slotAt (L .row) (firstRow R L) b i
 
   unfoldable pub rowAt : List ℕ → ℕ → Row
   rowAt b i = L .row .of (recordFields (L .row) (rowSlotAt b i))
@@ -64,7 +64,7 @@ module _ (R : Rules) (L : Layout) where
   unfoldable pub rowsCheckedOf : List ℕ → Checked
   rowsCheckedOf b =
       cond
-      (every (map (slotOk (L .row) (rowTest R L (contractsIn R L b))) (slots (L .row) rowCount (drop (rowsFrom R L) b)))
+      (every (map (slotOk (L .row) (rowTest R L (contractsIn R L b))) (slots (L .row) rowCount (drop (firstRow R L) b)))
       && everyPair (inOrder comesBefore) (rowSlots R L b))
       (WellFormed (length (held (rowSlots R L b))) (total (λ x. x .amount) (held (rowSlots R L b))))
       Malformed

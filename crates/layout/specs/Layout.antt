@@ -50,14 +50,14 @@ comesBefore x y = sortsAfter (y .bill) (x .bill) && not (sharing (x .bill .contr
 
 module _ (R : Rules) (L : Layout) where
   -- where the contracts and the rows begin, and the end
-  unfoldable pub contractsFrom : ℕ
-  contractsFrom = size (L .header)
+  unfoldable pub firstContract : ℕ
+  firstContract = size (L .header)
 
-  unfoldable pub rowsFrom : ℕ
-  rowsFrom = contractsFrom + R .contractLimit * size (whole (L .contract))
+  unfoldable pub firstRow : ℕ
+  firstRow = firstContract + R .contractLimit * size (whole (L .contract))
 
-  unfoldable pub ledgerSize : ℕ
-  ledgerSize = rowsFrom + rowCount * size (whole (L .row))
+  unfoldable pub ledgerLength : ℕ
+  ledgerLength = firstRow + rowCount * size (whole (L .row))
 
   -- the header's numbers
   unfoldable pub territoryIn : List ℕ → ℕ
@@ -71,13 +71,13 @@ module _ (R : Rules) (L : Layout) where
 
   -- what the slots of the contracts and of the rows hold
   unfoldable pub contractSlots : List ℕ → List (Option Contract)
-  contractSlots b = arrayIn (L .contract) (R .contractLimit) (drop contractsFrom b)
+  contractSlots b = arrayIn (L .contract) (R .contractLimit) (drop firstContract b)
 
   abbrev pub contractsIn : List ℕ → Contracts
   contractsIn b = numbered (contractSlots b)
 
   unfoldable pub rowSlots : List ℕ → List (Option Row)
-  rowSlots b = arrayIn (L .row) rowCount (drop rowsFrom b)
+  rowSlots b = arrayIn (L .row) rowCount (drop firstRow b)
 
   -- the test of a contract's numbers, and of a row's
   abbrev pub contractTest : List ℕ → List ℕ → Bool
@@ -90,12 +90,12 @@ module _ (R : Rules) (L : Layout) where
   -- where there is none; held rows first, and of any two the earlier one comes before
   abbrev pub wellFormedTests : List ℕ → List Bool
   wellFormedTests b =
-      eqb (length b) ledgerSize
+      eqb (length b) ledgerLength
       ∷ areBytes b
       ∷ leb (claimsIn b) mostClaims
       ∷ (not (eqb (claimsIn b) 0) || eqb (penceIn b) 0)
-      ∷ every (map (slotOk (L .contract) (contractTest b)) (slots (L .contract) (R .contractLimit) (drop contractsFrom b)))
-      ∷ every (map (slotOk (L .row) (rowTest (contractsIn b))) (slots (L .row) rowCount (drop rowsFrom b)))
+      ∷ every (map (slotOk (L .contract) (contractTest b)) (slots (L .contract) (R .contractLimit) (drop firstContract b)))
+      ∷ every (map (slotOk (L .row) (rowTest (contractsIn b))) (slots (L .row) rowCount (drop firstRow b)))
       ∷ everyPair (inOrder comesBefore) (rowSlots b)
       ∷ []
 

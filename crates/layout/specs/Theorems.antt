@@ -11,12 +11,12 @@ use Rattle.model.specs.BalanceByRates.{EveryHistoryBalancesByRates}
 use Rattle.model.specs.HoldsFacts.{EveryHistoryHoldsItsFacts}
 use Rattle.model.specs.SheetAnswers.{EveryAnswerFromTheSheet, EveryAcceptedClaimLeavesRest}
 use Rattle.model.specs.Postings.{SameAsPostings}
-use Rattle.layout.specs.Layout.{ledgerSize}
+use Rattle.layout.specs.Layout.{ledgerLength}
 use Rattle.layout.specs.Present.{rules, layout, Formed, facts, bytes, machine}
 
 -- the length of a packed ledger
 abbrev pub PackedSize : Type 0
-PackedSize = ledgerSize rules layout ≡ 18760
+PackedSize = ledgerLength rules layout ≡ 18760
 
 -- demand 2: packing then unpacking gives the facts; unpacking then packing a well-formed ledger gives its bytes; and the well-formed
 -- ledgers are exactly the bytes of well-formed facts

@@ -11,7 +11,7 @@ use Rattle.records.specs.Pack.{unpack}
 use Rattle.records.specs.Slots.{allZero}
 use Rattle.records.specs.OneSlot.{slotNumbers, slotPart, slotAt}
 use Rattle.records.proofs.Scan.{recordOf}
-use Rattle.layout.specs.Layout.{rowsFrom}
+use Rattle.layout.specs.Layout.{firstRow}
 use Rattle.layout.specs.Check.{rowSlotAt}
 use Rattle.layout.specs.PresentLayout.{rowRecord}
 use Rattle.layout.specs.Present.{rules, layout}
@@ -24,12 +24,12 @@ module _ (b : List ℕ) (i : ℕ) where
 
   pub row-amount-low : recordOf rowRecord (rowSlotAt rules layout b i) .amount < 2 ^ 50
   unfolding slotAt slotNumbers unpack fields
-  row-amount-low = field-lt (slotPart rowRecord (rowsFrom rules layout) b i) _ _
+  row-amount-low = field-lt (slotPart rowRecord (firstRow rules layout) b i) _ _
 
   pub row-contract-low : recordOf rowRecord (rowSlotAt rules layout b i) .bill .contract < contractCount
   unfolding slotAt slotNumbers unpack fields
-  row-contract-low = field-lt (slotPart rowRecord (rowsFrom rules layout) b i) _ _
+  row-contract-low = field-lt (slotPart rowRecord (firstRow rules layout) b i) _ _
 
   pub row-days-low : (recordOf rowRecord (rowSlotAt rules layout b i) .bill .first < dayValues) × (recordOf rowRecord (rowSlotAt rules layout b i) .bill .last < dayValues)
   unfolding slotAt slotNumbers unpack fields
-  row-days-low = (field-lt (slotPart rowRecord (rowsFrom rules layout) b i) _ _, field-lt (slotPart rowRecord (rowsFrom rules layout) b i) _ _)
+  row-days-low = (field-lt (slotPart rowRecord (firstRow rules layout) b i) _ _, field-lt (slotPart rowRecord (firstRow rules layout) b i) _ _)
