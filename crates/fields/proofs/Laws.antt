@@ -8,7 +8,7 @@ use native.Mathlib.Nat.{add-zero, add-assoc, mod-eq-of-lt, suc-ne-zero}
 use native.Mathlib.Omega.{arith}
 use lib.ListN.{length, take, drop, length-append, length-drop, take-append-drop}
 use lib.Seq.{length-take-le, take-all, take-at, drop-at, take-add, take-take, drop-drop, getD-drop}
-use Rattle.fields.specs.Field.{value, bitsOf, bits, bytes, fieldAt, setField, AreBytes}
+use Rattle.fields.specs.Field.{value, bitsOf, bits, bytesOfBits, fieldAt, setField, AreBytes}
 use Rattle.fields.specs.Fields.{sum, fields, setFields, fieldBits, Fit}
 use Rattle.fields.proofs.Bits.{value-take-lt, value-bitsOf, bitsOf-value, part-left, drop-right, part-of-part, drop-take-append, value-part}
 pub use Rattle.fields.proofs.Bits.{length-bitsOf}
@@ -25,20 +25,20 @@ unfolding bits
 bits-append [] ys = refl
 bits-append (x ∷ xs) ys = ap (λ (l : List Bool). bitsOf 8 x ++ l) (bits-append xs ys) ∙ sym (append-assoc (bitsOf 8 x) (bits xs) (bits ys))
 
-pub length-bytes : (n : ℕ) (l : List Bool) → length (bytes n l) ≡ n
-unfolding bytes
+pub length-bytes : (n : ℕ) (l : List Bool) → length (bytesOfBits n l) ≡ n
+unfolding bytesOfBits
 length-bytes zero l = refl
 length-bytes (suc n) l = ap suc (length-bytes n (drop 8 l))
 
-pub are-bytes : (n : ℕ) (l : List Bool) → AreBytes (bytes n l)
-unfolding bytes
+pub are-bytes : (n : ℕ) (l : List Bool) → AreBytes (bytesOfBits n l)
+unfolding bytesOfBits
 are-bytes zero l i = omega arith
 are-bytes (suc n) l zero = value-take-lt 8 l
 are-bytes (suc n) l (suc i) = are-bytes n (drop 8 l) i
 
 -- the bits of the bytes that a row writes are the row
-pub bits-bytes : (n : ℕ) (l : List Bool) → length l ≡ 8 * n → bits (bytes n l) ≡ l
-unfolding bits bytes
+pub bits-bytes : (n : ℕ) (l : List Bool) → length l ≡ 8 * n → bits (bytesOfBits n l) ≡ l
+unfolding bits bytesOfBits
 bits-bytes zero [] e = refl
 bits-bytes zero (x ∷ l) e = absurd (suc-ne-zero (length l) e)
 bits-bytes (suc n) l e =
@@ -48,17 +48,17 @@ bits-bytes (suc n) l e =
     ∙ take-append-drop 8 l
 
 -- the bytes that the bits of bytes write are the bytes
-pub bytes-bits : (b : List ℕ) → AreBytes b → bytes (length b) (bits b) ≡ b
-unfolding bits bytes
+pub bytes-bits : (b : List ℕ) → AreBytes b → bytesOfBits (length b) (bits b) ≡ b
+unfolding bits bytesOfBits
 bytes-bits [] h = refl
 bytes-bits (x ∷ xs) h =
     ap₂ (λ (y : ℕ) (ys : List ℕ). y ∷ ys)
     (ap value (take-at (bitsOf 8 x) (bits xs) 8 (length-bitsOf 8 x)) ∙ value-bitsOf 8 x ∙ mod-eq-of-lt (h 0))
-    (ap (bytes (length xs)) (drop-at (bitsOf 8 x) (bits xs) 8 (length-bitsOf 8 x)) ∙ bytes-bits xs (λ i. h (suc i)))
+    (ap (bytesOfBits (length xs)) (drop-at (bitsOf 8 x) (bits xs) 8 (length-bitsOf 8 x)) ∙ bytes-bits xs (λ i. h (suc i)))
 
 -- bytes that have the same bits are the same
 pub bits-inj : (b c : List ℕ) → AreBytes b → AreBytes c → length b ≡ length c → bits b ≡ bits c → b ≡ c
-bits-inj b c hb hc e h = sym (bytes-bits b hb) ∙ ap₂ bytes e h ∙ bytes-bits c hc
+bits-inj b c hb hc e h = sym (bytes-bits b hb) ∙ ap₂ bytesOfBits e h ∙ bytes-bits c hc
 
 pub are-append : (xs ys : List ℕ) → AreBytes xs → AreBytes ys → AreBytes (xs ++ ys)
 are-append [] ys hx hy i = hy i
@@ -150,7 +150,7 @@ module _ (b : List ℕ) (at w : ℕ) (inside : at + w ≤ 8 * length b) where
   pub set-get : AreBytes b → setField b at w (fieldAt b at w) ≡ b
   unfolding fieldAt setField
   set-get hb =
-      ap (bytes (length b))
+      ap (bytesOfBits (length b))
       (ap₂ (λ (l r : List Bool). take at (bits b) ++ (l ++ r))
       (bitsOf-value w (take w (drop at (bits b))) (length-take-le w (drop at (bits b)) (omega (arith, length-drop at (bits b), length-bits b))))
       (sym (drop-drop w at (bits b)))
@@ -284,9 +284,9 @@ fields-of-bits b at (w ∷ ws) (v ∷ vs) rest f e =
 -- ---- packing values into bytes, and unpacking them
 
 -- packed and unpacked again: the values
-pub fields-packed : (n : ℕ) (ws vs : List ℕ) → Fit ws vs → sum ws ≡ 8 * n → fields (bytes n (fieldBits ws vs)) 0 ws ≡ vs
+pub fields-packed : (n : ℕ) (ws vs : List ℕ) → Fit ws vs → sum ws ≡ 8 * n → fields (bytesOfBits n (fieldBits ws vs)) 0 ws ≡ vs
 fields-packed n ws vs f e =
-    fields-of-bits (bytes n (fieldBits ws vs)) 0 ws vs [] f
+    fields-of-bits (bytesOfBits n (fieldBits ws vs)) 0 ws vs [] f
     (bits-bytes n (fieldBits ws vs) (length-fieldBits ws vs f ∙ e) ∙ sym (append-nil (fieldBits ws vs)))
 
 -- the bits of what adjacent fields hold are their part of the row
@@ -301,7 +301,7 @@ fieldBits-fields b at (w ∷ ws) h =
     ∙ sym (take-add w (sum ws) D)
 
 -- unpacked and packed again: the bytes
-pub packed-fields : (b ws : List ℕ) → AreBytes b → sum ws ≡ 8 * length b → bytes (length b) (fieldBits ws (fields b 0 ws)) ≡ b
+pub packed-fields : (b ws : List ℕ) → AreBytes b → sum ws ≡ 8 * length b → bytesOfBits (length b) (fieldBits ws (fields b 0 ws)) ≡ b
 packed-fields b ws hb e =
-    ap (bytes (length b)) (fieldBits-fields b 0 ws (omega arith) ∙ take-all (sum ws) (bits b) (omega (arith, length-bits b)))
+    ap (bytesOfBits (length b)) (fieldBits-fields b 0 ws (omega arith) ∙ take-all (sum ws) (bits b) (omega (arith, length-bits b)))
     ∙ bytes-bits b hb

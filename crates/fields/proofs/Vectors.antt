@@ -1,7 +1,7 @@
 -- Worked examples, computed on the definitions.
 use mathlib.Core.Path.{_≡_, refl}
 use mathlib.Core.List.{[], _∷_}
-use Rattle.fields.specs.Field.{value, bitsOf, bits, bytes, fieldAt, setField}
+use Rattle.fields.specs.Field.{value, bitsOf, bits, bytesOfBits, fieldAt, setField}
 use Rattle.fields.specs.Fields.{fieldBits}
 
 -- the most significant bit of a byte comes first
@@ -21,10 +21,10 @@ fifty-bits = refl
 
 -- a field put across three bytes
 straddling-put : setField (0xab ∷ 0xcd ∷ 0xef ∷ []) 6 11 0x555 ≡ 0xaa ∷ 0xaa ∷ 0xef ∷ []
-unfolding value bitsOf bits bytes setField
+unfolding value bitsOf bits bytesOfBits setField
 straddling-put = refl
 
 -- adjacent fields packed into three bytes
-packed : bytes 3 (fieldBits (1 ∷ 6 ∷ 10 ∷ 7 ∷ []) (1 ∷ 5 ∷ 486 ∷ 3 ∷ [])) ≡ 0x8a ∷ 0xf3 ∷ 0x03 ∷ []
-unfolding value bitsOf bytes fieldBits
+packed : bytesOfBits 3 (fieldBits (1 ∷ 6 ∷ 10 ∷ 7 ∷ []) (1 ∷ 5 ∷ 486 ∷ 3 ∷ [])) ≡ 0x8a ∷ 0xf3 ∷ 0x03 ∷ []
+unfolding value bitsOf bytesOfBits fieldBits
 packed = refl

@@ -11,7 +11,7 @@ use lib.Seq.{getD-drop, take-suc, take-at, drop-at, paste, paste-suc}
 use lib.Dec.{lit<}
 use lib.Pow.{high, low, pow-pos, pow-add, split, shr-lt, shl-exact, shr-mod, ones-lt, ones-split, high-ones}
 use lib.Bits.{bitAnd, bitOr, and-mask, and-block, and-high, or-block, or-shifted, or-shifted-r, or-zero-r}
-use Rattle.fields.specs.Field.{value, bitsOf, bits, bytes, AreBytes}
+use Rattle.fields.specs.Field.{value, bitsOf, bits, bytesOfBits, AreBytes}
 use Rattle.fields.specs.Words.{littleAt, reversed}
 use Rattle.fields.proofs.Bits.{value-append, value-bitsOf, length-bitsOf, bitsOf-add}
 use Rattle.fields.proofs.Laws.{length-bytes, bits-append, are-drop}
@@ -174,18 +174,18 @@ reversed-little b first hb h =
 
 -- ---- the store of the n low bytes of x
 
-bytes-suc : (n x : ℕ) → bytes (suc n) (bitsOf (8 * suc n) x) ≡ (x / 2 ^ (8 * n) % 2 ^ 8) ∷ bytes n (bitsOf (8 * n) x)
-unfolding bytes
+bytes-suc : (n x : ℕ) → bytesOfBits (suc n) (bitsOf (8 * suc n) x) ≡ (x / 2 ^ (8 * n) % 2 ^ 8) ∷ bytesOfBits n (bitsOf (8 * n) x)
+unfolding bytesOfBits
 bytes-suc n x =
     let p : List Bool = bitsOf 8 (x / 2 ^ (8 * n)) in
     let q : List Bool = bitsOf (8 * n) x in
     let e : 8 * suc n ≡ 8 + 8 * n = omega arith in
-    ap (λ (k : ℕ). bytes (suc n) (bitsOf k x)) e ∙ ap (bytes (suc n)) (bitsOf-add 8 (8 * n) x)
+    ap (λ (k : ℕ). bytesOfBits (suc n) (bitsOf k x)) e ∙ ap (bytesOfBits (suc n)) (bitsOf-add 8 (8 * n) x)
     ∙ ap₂ (λ (y : ℕ) (ys : List ℕ). y ∷ ys)
     (ap value (take-at p q 8 (length-bitsOf 8 (x / 2 ^ (8 * n)))) ∙ value-bitsOf 8 (x / 2 ^ (8 * n)))
-    (ap (bytes n) (drop-at p q 8 (length-bitsOf 8 (x / 2 ^ (8 * n)))))
+    (ap (bytesOfBits n) (drop-at p q 8 (length-bitsOf 8 (x / 2 ^ (8 * n)))))
 
-byte-at : (n x j : ℕ) → j < n → getD (bytes n (bitsOf (8 * n) x)) j 0 ≡ x / 2 ^ ((n - 1 - j) * 8) % 2 ^ 8
+byte-at : (n x j : ℕ) → j < n → getD (bytesOfBits n (bitsOf (8 * n) x)) j 0 ≡ x / 2 ^ ((n - 1 - j) * 8) % 2 ^ 8
 byte-at zero x j h = absurd (not-suc-le-zero h)
 byte-at (suc n) x zero h =
     let e : 8 * n ≡ (suc n - 1 - 0) * 8 = omega arith in
@@ -195,10 +195,10 @@ byte-at (suc n) x (suc j) h =
     ap (λ (l : List ℕ). getD l (suc j) 0) (bytes-suc n x) ∙ byte-at n x j (le-of-suc-le-suc h) ∙ ap (λ (k : ℕ). x / 2 ^ k % 2 ^ 8) e
 
 -- a turn: the first j bytes are stored in s from byte `first` on, and y is the next
-pub store-step : (s₀ s : List ℕ) (first n x j y : ℕ) → first + n ≤ length s₀ → j < n → s ≡ paste s₀ first (bytes n (bitsOf (8 * n) x)) j
-    → y ≡ x / 2 ^ ((n - 1 - j) * 8) % 2 ^ 8 → set s (first + j) y ≡ paste s₀ first (bytes n (bitsOf (8 * n) x)) (j + 1)
+pub store-step : (s₀ s : List ℕ) (first n x j y : ℕ) → first + n ≤ length s₀ → j < n → s ≡ paste s₀ first (bytesOfBits n (bitsOf (8 * n) x)) j
+    → y ≡ x / 2 ^ ((n - 1 - j) * 8) % 2 ^ 8 → set s (first + j) y ≡ paste s₀ first (bytesOfBits n (bitsOf (8 * n) x)) (j + 1)
 store-step s₀ s first n x j y h hj es ey =
-    let new : List ℕ = bytes n (bitsOf (8 * n) x) in
+    let new : List ℕ = bytesOfBits n (bitsOf (8 * n) x) in
     ap₂ (λ (r : List ℕ) (k : ℕ). set r (first + j) k) es (ey ∙ sym (byte-at n x j hj))
     ∙ paste-suc s₀ first new j 0 (omega arith) (omega (arith, length-bytes n (bitsOf (8 * n) x)))
     ∙ ap (paste s₀ first new) (sym (add-one j))

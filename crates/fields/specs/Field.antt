@@ -27,9 +27,9 @@ bits [] = []
 bits (x ∷ xs) = bitsOf 8 x ++ bits xs
 
 -- the n bytes that a row writes, each by eight bits
-unfoldable pub bytes : ℕ → List Bool → List ℕ
-bytes zero l = []
-bytes (suc n) l = value (take 8 l) ∷ bytes n (drop 8 l)
+unfoldable pub bytesOfBits : ℕ → List Bool → List ℕ
+bytesOfBits zero l = []
+bytesOfBits (suc n) l = value (take 8 l) ∷ bytesOfBits n (drop 8 l)
 
 -- what the field of w bits from bit `at` on holds in the bytes b
 unfoldable pub fieldAt : List ℕ → ℕ → ℕ → ℕ
@@ -37,7 +37,7 @@ fieldAt b at w = value (take w (drop at (bits b)))
 
 -- the bytes b with v in the field of w bits from bit `at` on, and every other bit as it was
 unfoldable pub setField : List ℕ → ℕ → ℕ → ℕ → List ℕ
-setField b at w v = bytes (length b) (take at (bits b) ++ (bitsOf w v ++ drop (at + w) (bits b)))
+setField b at w v = bytesOfBits (length b) (take at (bits b) ++ (bitsOf w v ++ drop (at + w) (bits b)))
 
 -- each number of the list is a byte
 abbrev pub AreBytes : List ℕ → Type 0

@@ -3,7 +3,7 @@ ghost use mathlib.Core.Path.{_≡_};
 ghost use Prim.Native.Nat.{_+_, _*_, _/_, _%_, _^_, _<_, _≤_};
 ghost use lib.ListN.{length, take, drop};
 ghost use lib.Seq.{paste};
-ghost use Rattle.fields.specs.Field.{value, bits, bitsOf, bytes};
+ghost use Rattle.fields.specs.Field.{value, bits, bitsOf, bytesOfBits};
 ghost use Rattle.fields.specs.Words.{littleAt, reversed};
 
 // The w bits of x that have `below` bits below them.
@@ -99,7 +99,7 @@ fn low_byte(x: u64) -> u8
 // Stores the n low bytes of x in s from byte `first` on.
 pub(crate) fn store(s: &mut [u8], first: usize, n: usize, x: u64)
     requires { ⌜ (n ≤ 8) × (first + n ≤ length (now s)) ⌝ }
-    ensures { λ _. ⌜ now (s .exit) ≡ paste (now (s .entry)) first (bytes n (bitsOf (8 * n) x)) n ⌝ }
+    ensures { λ _. ⌜ now (s .exit) ≡ paste (now (s .entry)) first (bytesOfBits n (bitsOf (8 * n) x)) n ⌝ }
 {
     let mut j = 0;
     while j < n {

@@ -7,7 +7,7 @@ use native.Mathlib.Omega.{arith}
 use native.Mathlib.Nat.{add-zero, add-assoc, not-suc-le-zero, le-of-suc-le-suc}
 use lib.ListN.{length, take, drop, getD, set, length-append, length-drop}
 use lib.Seq.{length-take-le, take-at}
-use Rattle.fields.specs.Field.{bits, bytes, setField, AreBytes}
+use Rattle.fields.specs.Field.{bits, bytesOfBits, setField, AreBytes}
 use Rattle.fields.specs.Fields.{sum, fields, setFields, fieldBits, Fit}
 use Rattle.fields.proofs.Laws.{length-bytes, are-bytes, bits-append, bits-bytes, bits-take, bits-drop, bits-inj, are-append, are-take, are-drop, are-setField, length-setField, field-within, set-get, get-set-after, fields-fit, fields-packed, packed-fields, length-fieldBits, length-setFields, are-setFields, bits-setFields}
 use Rattle.records.specs.Pack.{size, WholeBytes, pack, unpack}
@@ -34,7 +34,7 @@ unpack-pack ws vs e f = fields-packed (size ws) ws vs f e
 pub pack-unpack : (ws b : List ℕ) → WholeBytes ws → AreBytes b → length b ≡ size ws → pack ws (unpack ws b) ≡ b
 unfolding unpack pack
 pack-unpack ws b e h l =
-    ap (λ (n : ℕ). bytes n (fieldBits ws (fields b 0 ws))) (sym l) ∙ packed-fields b ws h (omega arith)
+    ap (λ (n : ℕ). bytesOfBits n (fieldBits ws (fields b 0 ws))) (sym l) ∙ packed-fields b ws h (omega arith)
 
 -- ---- a record within other bytes
 

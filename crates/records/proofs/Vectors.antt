@@ -7,7 +7,7 @@ use Prim.Native.Nat.{ℕ, _<_}
 use native.Mathlib.Omega.{arith}
 use lib.Dec.{ltb}
 use lib.ListN.{length, getD}
-use Rattle.fields.specs.Field.{value, bitsOf, bits, bytes, fieldAt}
+use Rattle.fields.specs.Field.{value, bitsOf, bits, bytesOfBits, fieldAt}
 use Rattle.fields.specs.Fields.{fields, fieldBits}
 use Rattle.basics.proofs.Tests.{and-left, and-right, lt-yes}
 use Rattle.records.specs.Pack.{size, pack, unpack, cut, join}
@@ -43,7 +43,7 @@ sample-ok = record { aligned = refl; of-values = λ a e. refl; values-of = two; 
 
 -- 1, 101, 1100100, 00000
 one-slot : slotBytes sample (some (5, 100)) ≡ 0xdc ∷ 0x80 ∷ []
-unfolding sample size pack slotOut bytes fieldBits value bitsOf
+unfolding sample size pack slotOut bytesOfBits fieldBits value bitsOf
 one-slot = refl
 
 one-read : slotIn sample (unpack (whole sample) (0xdc ∷ 0x80 ∷ [])) ≡ some (5, 100)
@@ -71,7 +71,7 @@ unfolding sample sampleTest unpack slotOk fields fieldAt value bits bitsOf
 free-ok = refl
 
 three-slots : arrayOut sample (places 3 ((5, 100) ∷ (1, 1) ∷ [])) ≡ 0xdc ∷ 0x80 ∷ 0x90 ∷ 0x20 ∷ 0x00 ∷ 0x00 ∷ []
-unfolding sample places arrayOut join size pack slotOut bytes fieldBits value bitsOf
+unfolding sample places arrayOut join size pack slotOut bytesOfBits fieldBits value bitsOf
 three-slots = refl
 
 three-read : arrayIn sample 3 (0xdc ∷ 0x80 ∷ 0x90 ∷ 0x20 ∷ 0x00 ∷ 0x00 ∷ []) ≡ some (5, 100) ∷ some (1, 1) ∷ none ∷ []

@@ -9,7 +9,7 @@ use native.Mathlib.Nat.{zero-div}
 use lib.Dec.{eqb}
 use lib.ListN.{length, take, drop, replicate, length-drop, replicate-append-replicate}
 use lib.Seq.{length-take-le, take-at, drop-at}
-use Rattle.fields.specs.Field.{value, bitsOf, bytes, AreBytes}
+use Rattle.fields.specs.Field.{value, bitsOf, bytesOfBits, AreBytes}
 use Rattle.fields.specs.Fields.{sum, fields, fieldBits}
 use Rattle.fields.proofs.Laws.{are-take, are-drop}
 use Rattle.basics.proofs.Tests.{either, and-left, and-right, eq-yes}
@@ -29,21 +29,21 @@ unfolding fieldBits
 fieldBits-blank [] = refl
 fieldBits-blank (w ∷ ws) = ap₂ (λ (a b : List Bool). a ++ b) (bitsOf-zero w) (fieldBits-blank ws) ∙ replicate-append-replicate w (sum ws) false
 
-bytes-zero : (n : ℕ) → bytes n (replicate (8 * n) false) ≡ replicate n 0
-unfolding bytes value
+bytes-zero : (n : ℕ) → bytesOfBits n (replicate (8 * n) false) ≡ replicate n 0
+unfolding bytesOfBits value
 bytes-zero zero = refl
 bytes-zero (suc n) =
     let e : 8 * suc n ≡ 8 + 8 * n = omega arith in
     let s : replicate (8 * suc n) false ≡ replicate 8 false ++ replicate (8 * n) false =
     ap (λ (m : ℕ). replicate m false) e ∙ sym (replicate-append-replicate 8 (8 * n) false) in
-    ap (bytes (suc n)) s
+    ap (bytesOfBits (suc n)) s
     ∙ ap₂ (λ (x : ℕ) (l : List ℕ). x ∷ l) (ap value (take-at (replicate 8 false) (replicate (8 * n) false) 8 refl))
-    (ap (bytes n) (drop-at (replicate 8 false) (replicate (8 * n) false) 8 refl) ∙ bytes-zero n)
+    (ap (bytesOfBits n) (drop-at (replicate 8 false) (replicate (8 * n) false) 8 refl) ∙ bytes-zero n)
 
 -- a record of zeros
 pub pack-blank : (ws : List ℕ) → WholeBytes ws → pack ws (zerosFor ws) ≡ replicate (size ws) 0
 unfolding pack
-pack-blank ws e = ap (bytes (size ws)) (fieldBits-blank ws ∙ ap (λ (n : ℕ). replicate n false) e) ∙ bytes-zero (size ws)
+pack-blank ws e = ap (bytesOfBits (size ws)) (fieldBits-blank ws ∙ ap (λ (n : ℕ). replicate n false) e) ∙ bytes-zero (size ws)
 
 module _ {A : Type 0} (k : RecordLayout A) (e : WholeBytes (whole k)) where
   pub free-slot : slotBytes k none ≡ replicate (size (whole k)) 0

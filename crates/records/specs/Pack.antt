@@ -3,7 +3,7 @@ use mathlib.Core.Path.{_≡_}
 use mathlib.Core.List.{List, [], _∷_, _++_}
 use Prim.Native.Nat.{ℕ, zero, suc, _*_, _/_}
 use lib.ListN.{take, drop}
-use Rattle.fields.specs.Field.{bytes}
+use Rattle.fields.specs.Field.{bytesOfBits}
 use Rattle.fields.specs.Fields.{sum, fields, fieldBits}
 
 -- how many bytes the record takes
@@ -16,7 +16,7 @@ WholeBytes ws = sum ws ≡ 8 * size ws
 
 -- the record's bytes, by the values of its fields
 unfoldable pub pack : List ℕ → List ℕ → List ℕ
-pack ws vs = bytes (size ws) (fieldBits ws vs)
+pack ws vs = bytesOfBits (size ws) (fieldBits ws vs)
 
 -- the values of the fields of the record that b begins with
 unfoldable pub unpack : List ℕ → List ℕ → List ℕ

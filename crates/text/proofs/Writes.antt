@@ -13,7 +13,7 @@ use mir.Syntax.{w64}
 use mir.Val.{SFits, toZ, ofZ}
 use mir.ValLaws.{toZ-ofZ}
 use Rattle.model.specs.declared.Reply.{Reply}
-use Rattle.text.specs.Bytes.{bytes, space}
+use Rattle.text.specs.Bytes.{ascii, space}
 use Rattle.text.specs.Numbers.{digits, integerText}
 use Rattle.text.specs.Lines.{Wrote, WroteWithin, spacedNumber, numberRoom, numbersText, wordsText, wordsRoom}
 
@@ -64,23 +64,23 @@ spaced-within {z = z} h v w = within-then (within-room 1 v (omega arith)) (rw (t
 
 -- ---- the words of a line, and their room: `ok` and the numbers
 module _ (t : Reply) (h : t .refused ≡ 0) where
-  pub ok-within : {d e f : List ℕ} {at p r : ℕ} → Wrote d e at p (bytes "ok") → WroteWithin (numberRoom * t .count) e f p r (numbersText (take (t .count) (t .numbers)))
+  pub ok-within : {d e f : List ℕ} {at p r : ℕ} → Wrote d e at p (ascii "ok") → WroteWithin (numberRoom * t .count) e f p r (numbersText (take (t .count) (t .numbers)))
       → WroteWithin (wordsRoom t) d f at r (wordsText t)
   ok-within v w = rw (eq-eqb (t .refused) 0 h) (within-then (within-room 2 v (omega arith)) w)
 
   pub ok-first : (at n : ℕ) → at + wordsRoom t ≤ n → at + 2 ≤ n
   ok-first at n l = let k : at + (2 + numberRoom * t .count) ≤ n = rw (eq-eqb (t .refused) 0 h) at l in omega arith
 
-  pub ok-after : {d e : List ℕ} {at p : ℕ} → Wrote d e at p (bytes "ok") → length e ≡ length d → at + wordsRoom t ≤ length d → p + numberRoom * t .count ≤ length e
+  pub ok-after : {d e : List ℕ} {at p : ℕ} → Wrote d e at p (ascii "ok") → length e ≡ length d → at + wordsRoom t ≤ length d → p + numberRoom * t .count ≤ length e
   ok-after v k l = room-after (numberRoom * t .count) (within-room 2 v (omega arith)) k (rw (eq-eqb (t .refused) 0 h) at l)
 
 -- `refused` and the number
 module _ (t : Reply) (h : t .refused ≡ 0 → ⊥) where
-  pub refused-within : {d e f : List ℕ} {at p r : ℕ} → Wrote d e at p (bytes "refused ") → Wrote e f p r (digits (t .refused)) → WroteWithin (wordsRoom t) d f at r (wordsText t)
+  pub refused-within : {d e f : List ℕ} {at p r : ℕ} → Wrote d e at p (ascii "refused ") → Wrote e f p r (digits (t .refused)) → WroteWithin (wordsRoom t) d f at r (wordsText t)
   refused-within v w = rw (ne-eqb (t .refused) 0 h) (within-then (within-room 8 v (omega arith)) (within-room (length (digits (t .refused))) w (omega arith)))
 
   pub refused-first : (at n : ℕ) → at + wordsRoom t ≤ n → at + 8 ≤ n
   refused-first at n l = let k : at + (8 + length (digits (t .refused))) ≤ n = rw (ne-eqb (t .refused) 0 h) at l in omega arith
 
-  pub refused-after : {d e : List ℕ} {at p : ℕ} → Wrote d e at p (bytes "refused ") → length e ≡ length d → at + wordsRoom t ≤ length d → p + length (digits (t .refused)) ≤ length e
+  pub refused-after : {d e : List ℕ} {at p : ℕ} → Wrote d e at p (ascii "refused ") → length e ≡ length d → at + wordsRoom t ≤ length d → p + length (digits (t .refused)) ≤ length e
   refused-after v k l = room-after (length (digits (t .refused))) (within-room 8 v (omega arith)) k (rw (ne-eqb (t .refused) 0 h) at l)

@@ -9,9 +9,9 @@ abbrev pub byte : Char → ℕ
 byte c = code c
 
 -- the bytes of a text in ASCII
-abbrev pub bytes : String → List ℕ
-bytes empty = []
-bytes (c before s) = byte c ∷ bytes s
+abbrev pub ascii : String → List ℕ
+ascii empty = []
+ascii (c before s) = byte c ∷ ascii s
 
 -- what stands between two words of a line
 abbrev pub space : ℕ

@@ -7,7 +7,7 @@ use Prim.Native.String.{String}
 use Rattle.model.specs.declared.Call.{Call}
 use Rattle.model.specs.Calls.{requestOf}
 use Rattle.text.specs.declared.reading.Command.{Command}
-use Rattle.text.specs.Bytes.{bytes, space}
+use Rattle.text.specs.Bytes.{ascii, space}
 use Rattle.text.specs.Pieces.{pieces, sameText}
 use Rattle.text.specs.Numbers.{numbersOf}
 
@@ -23,7 +23,7 @@ pub record Form : Type 0 where
   pub make : Takes count
 
 abbrev pub form : String → (k : ℕ) → Takes k → Form
-form name k make = record { name = bytes name; count = k; make = make }
+form name k make = record { name = ascii name; count = k; make = make }
 
 -- the calls by name, with how many numbers each takes
 abbrev pub forms : List Form

@@ -8,7 +8,7 @@ use lib.IntN.{ℤ}
 use lib.ListN.{length, take, drop}
 use Rattle.model.specs.declared.Reply.{Reply}
 use Rattle.model.specs.Calls.{answerNumbers}
-use Rattle.text.specs.Bytes.{bytes, space, lineFeed}
+use Rattle.text.specs.Bytes.{ascii, space, lineFeed}
 use Rattle.text.specs.Numbers.{digits, integerText}
 
 -- a space and a number
@@ -22,7 +22,7 @@ numbersText (z ∷ zs) = spacedNumber z ++ numbersText zs
 
 -- a line without its line feed: `ok` with the answer's numbers, or `refused` and the number, single spaces between
 abbrev pub wordsText : Reply → List ℕ
-wordsText t = cond (eqb (t .refused) 0) (bytes "ok" ++ numbersText (take (t .count) (t .numbers))) (bytes "refused " ++ digits (t .refused))
+wordsText t = cond (eqb (t .refused) 0) (ascii "ok" ++ numbersText (take (t .count) (t .numbers))) (ascii "refused " ++ digits (t .refused))
 
 -- the line
 abbrev pub lineText : Reply → List ℕ

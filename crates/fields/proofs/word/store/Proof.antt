@@ -5,13 +5,13 @@ use native.Mathlib.Nat.{le-antisymm}
 use native.Mathlib.Omega.{arith}
 use lib.ListN.{length, length-set}
 use lib.Seq.{paste, paste-zero}
-use Rattle.fields.specs.Field.{bytes, bitsOf}
+use Rattle.fields.specs.Field.{bytesOfBits, bitsOf}
 use Rattle.fields.proofs.Words.{store-step}
 use Rattle.fields.proofs.word.store.Statement.{statement}
 use Rattle.fields.proofs.word.store.Tie as tie
 
 abbrev Inv-loop : tie.InvT-loop
-Inv-loop s₀ first n x j₀ s j = (j ≤ n) × ((length s ≡ length s₀) × (s ≡ paste s₀ first (bytes n (bitsOf (8 * n) x)) j))
+Inv-loop s₀ first n x j₀ s j = (j ≤ n) × ((length s ≡ length s₀) × (s ≡ paste s₀ first (bytesOfBits n (bitsOf (8 * n) x)) j))
 
 abbrev μ-loop : tie.MeasureT-loop
 μ-loop s₀ first n x j₀ s j = n - j
@@ -19,7 +19,7 @@ abbrev μ-loop : tie.MeasureT-loop
 loop-holds : tie.Need-loop-holds Inv-loop μ-loop
 loop-holds c =
     let a = c .before .args in
-    (omega arith, (refl, paste-zero (a .s .now) (a .first) (bytes (a .n) (bitsOf (8 * a .n) (a .x)))))
+    (omega arith, (refl, paste-zero (a .s .now) (a .first) (bytesOfBits (a .n) (bitsOf (8 * a .n) (a .x)))))
 
 sub-low-byte : tie.Need-sub-low-byte Inv-loop μ-loop
 sub-low-byte c = omega arith
@@ -69,7 +69,7 @@ returns c =
     let at-loop = c .before in
     let a = at-loop .before .before .args in
     at-loop .loop .inv .1 .1
-    ∙ ap (paste (a .s .now) (a .first) (bytes (a .n) (bitsOf (8 * a .n) (a .x)))) (le-antisymm (at-loop .loop .inv .0) (c .loop-test .left))
+    ∙ ap (paste (a .s .now) (a .first) (bytesOfBits (a .n) (bitsOf (8 * a .n) (a .x)))) (le-antisymm (at-loop .loop .inv .0) (c .loop-test .left))
 
 pub store-spec : {M : Type 1} → statement M
 store-spec =
