@@ -2,25 +2,25 @@
 use Prim.Native.Nat.{ℕ, _*_, _^_, _<_, _≤_}
 use native.Mathlib.Omega.{arith}
 use native.Mathlib.Nat.{mul-le-mul, mul-le-mul-left}
+use lib.IntN.{pos, _-ℤ_}
 use Rattle.limits.specs.Limits.{highestPrice, mostKwhStored}
+use Rattle.basics.specs.Integers.{atLeastZero}
 use Rattle.basics.proofs.Integers.{difference-at-least-zero}
 use Rattle.rates.specs.declared.Fuel.{Fuel}
 use Rattle.rates.specs.declared.Fuel.the-variants.{Electricity, Gas}
 use Rattle.rates.specs.declared.Class.{Class}
 use Rattle.rates.specs.declared.Class.the-variants.{Baseline, Etii, QhsOld, QhsNew}
-use Rattle.rates.specs.declared.Prices.{Prices}
 use Rattle.rates.specs.declared.Prices.the-variants.{Limited, Unlimited}
 use Rattle.rates.specs.declared.Contract.{Contract}
 use Rattle.rates.specs.declared.Bill.{Bill}
-use Rattle.rates.specs.Rates.{part, partOf, classRate, qhsCap, classCap, classOf, rate, cap, amount}
-use Rattle.rates.specs.Prices.{pricesOf, minimumOf}
+use Rattle.rates.specs.Rates.{part, partOf, classRate, classCap, classOf, rate, cap, amount}
 use Rattle.rates.proofs.Parts.{part-limited, part-unlimited}
 
 -- a part is at most the maximum discount, or of QHS at most S − QHS minimum
 limited-le : (support maximum minimum R S : ℕ) → part (Limited support maximum minimum) R S ≤ maximum
 limited-le support maximum minimum R S = omega (arith, part-limited support maximum minimum R S)
 
-unlimited-le : (minimum R S : ℕ) → 10 * part (Unlimited minimum) R S ≤ qhsCap (Unlimited minimum) S
+unlimited-le : (minimum R S : ℕ) → 10 * part (Unlimited minimum) R S ≤ 10 * atLeastZero (pos S -ℤ pos minimum)
 unlimited-le minimum R S = omega (arith, part-unlimited minimum R S, difference-at-least-zero S minimum)
 
 pub class-rate-capped : (fuel : Fuel) (class : Class) (R S : ℕ) → classRate fuel class R S ≤ classCap fuel class S
@@ -29,10 +29,10 @@ class-rate-capped Electricity Baseline R S = omega (arith, limited-le 30200 1961
 class-rate-capped Gas Baseline R S = omega (arith, limited-le 10700 697 10700 R S)
 class-rate-capped Electricity Etii R S = omega (arith, limited-le 30200 1961 30200 R S, limited-le 18500 8900 18500 R S)
 class-rate-capped Gas Etii R S = omega (arith, limited-le 10700 697 10700 R S, limited-le 9900 4000 9900 R S)
-class-rate-capped Electricity QhsOld R S = unlimited-le _ R S
-class-rate-capped Electricity QhsNew R S = unlimited-le _ R S
-class-rate-capped Gas QhsOld R S = unlimited-le _ R S
-class-rate-capped Gas QhsNew R S = unlimited-le _ R S
+class-rate-capped Electricity QhsOld R S = unlimited-le 34000 R S
+class-rate-capped Electricity QhsNew R S = unlimited-le 28240 R S
+class-rate-capped Gas QhsOld R S = unlimited-le 7830 R S
+class-rate-capped Gas QhsNew R S = unlimited-le 6500 R S
 
 -- no rate and no amount within the paper's ranges is higher
 abbrev pub highestRate : ℕ
@@ -41,8 +41,8 @@ highestRate = 10 * highestPrice
 abbrev pub highestAmount : ℕ
 highestAmount = mostKwhStored * highestRate
 
-qhs-cap-low : (prices : Prices) (S : ℕ) → S ≤ highestPrice → qhsCap prices S ≤ highestRate
-qhs-cap-low prices S h = omega (arith, difference-at-least-zero S (minimumOf prices))
+held-le : (minimum S : ℕ) → S ≤ highestPrice → 10 * atLeastZero (pos S -ℤ pos minimum) ≤ highestRate
+held-le minimum S h = omega (arith, difference-at-least-zero S minimum)
 
 class-cap-low : (fuel : Fuel) (class : Class) (S : ℕ) → S ≤ highestPrice → classCap fuel class S ≤ highestRate
 unfolding classCap
@@ -50,8 +50,10 @@ class-cap-low Electricity Baseline S h = omega arith
 class-cap-low Gas Baseline S h = omega arith
 class-cap-low Electricity Etii S h = omega arith
 class-cap-low Gas Etii S h = omega arith
-class-cap-low fuel QhsOld S h = qhs-cap-low (pricesOf fuel QhsOld) S h
-class-cap-low fuel QhsNew S h = qhs-cap-low (pricesOf fuel QhsNew) S h
+class-cap-low Electricity QhsOld S h = held-le 34000 S h
+class-cap-low Electricity QhsNew S h = held-le 28240 S h
+class-cap-low Gas QhsOld S h = held-le 7830 S h
+class-cap-low Gas QhsNew S h = held-le 6500 S h
 
 -- rate ≤ cap
 pub rate-capped : (contract : Contract) (bill : Bill) → rate contract bill ≤ cap contract bill

@@ -20,7 +20,7 @@ use Rattle.rates.specs.declared.Class.the-variants.{Baseline, Etii, QhsO
 use Rattle.rates.specs.declared.Rated.{Rated}
 use Rattle.rates.specs.declared.Prices.{Prices}
 use Rattle.rates.specs.declared.Prices.the-variants.{Limited, Unlimited}
-use Rattle.rates.specs.Prices.{pricesOf, minimumOf}
+use Rattle.rates.specs.Prices.{pricesOf}
 
 -- the least of R − support price, maximum discount and S − minimum; of QHS the lesser of R and S − QHS minimum
 unfoldable pub leastTerm : Prices → (R S : ℕ) → ℤ
@@ -63,16 +63,15 @@ unfoldable pub classOf : Contract → (first : ℕ) → Class
 classOf contract first = certifiedClass (contract .certificate) (contract .kind) first
 
 -- a class's cap; of QHS 10 times max(S − QHS minimum, 0)
-abbrev pub qhsCap : Prices → (S : ℕ) → ℕ
-qhsCap prices S = 10 * atLeastZero (pos S -ℤ pos (minimumOf prices))
-
 unfoldable pub classCap : Fuel → Class → (S : ℕ) → ℕ
 classCap Electricity Baseline S = 19610
 classCap Gas Baseline S = 6970
 classCap Electricity Etii S = 68183
 classCap Gas Etii S = 30091
-classCap fuel QhsOld S = qhsCap (pricesOf fuel QhsOld) S
-classCap fuel QhsNew S = qhsCap (pricesOf fuel QhsNew) S
+classCap Electricity QhsOld S = 10 * atLeastZero (pos S -ℤ pos 34000)
+classCap Electricity QhsNew S = 10 * atLeastZero (pos S -ℤ pos 28240)
+classCap Gas QhsOld S = 10 * atLeastZero (pos S -ℤ pos 7830)
+classCap Gas QhsNew S = 10 * atLeastZero (pos S -ℤ pos 6500)
 
 -- a bill's rate under its contract, from its first day, R and S
 unfoldable pub rate : Contract → Bill → ℕ
