@@ -2,5 +2,7 @@
 pub mod SameDate
 pub mod Positions
 pub mod Days
+pub mod TableOfDates
 pub mod SchemeMonths
 pub mod Conversions
+pub mod DayAndDate

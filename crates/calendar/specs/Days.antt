@@ -1,6 +1,6 @@
--- Day numbers: the table of dates, the date of a day number, its packed form, the scheme month of a day.
-use Prim.Native.Nat.{ℕ, zero, suc, _+_, _*_, _-_}
-use mathlib.Core.List.{List, [], _∷_, _++_}
+-- Document 01, "Days": the table of dates, the date of a day number, packed dates, the scheme month of a day.
+use Prim.Native.Nat.{ℕ, zero, suc, _+_, _*_, _-_, _/_, _%_}
+use mathlib.Core.List.{List, [], _∷_, _++_, map}
 use lib.ListN.{getD}
 use Rattle.calendar.specs.declared.CalendarDate.{CalendarDate}
 use Rattle.calendar.specs.Calendar.{dateFrom, daysInMonth}
@@ -34,6 +34,14 @@ dateOf day = getD dates day noDate
 -- a date packed into 16 bits: the years after 2000, four bits for the month, five bits for the day
 abbrev pub packed : CalendarDate → ℕ
 packed date = ((date .year - 2000) * 16 + date .month) * 32 + date .day
+
+-- the date that a packed date stands for
+unfoldable pub unpacked : ℕ → CalendarDate
+unpacked number = dateFrom (2000 + number / 512) (number / 32 % 16) (number % 32)
+
+-- the table as it is packed
+unfoldable pub packedDates : List ℕ
+packedDates = map packed dates
 
 -- the scheme month of a date: the months since April 2023, and 0 before it
 abbrev pub schemeMonthOf : CalendarDate → ℕ

@@ -1,15 +1,12 @@
 // The table of dates: for each day number, 0 for 1 December 2021 to 851 for 31 March 2024, its packed date.
 ghost use mathlib.Core.Path.{_≡_};
-ghost use Prim.Native.Nat.{_<_};
-ghost use Rattle.limits.specs.Limits.{dayCount};
-ghost use Rattle.calendar.specs.Days.{dateOf, packed};
+ghost use Rattle.calendar.specs.Days.{packedDates};
 
-// The packed date of a day number.
-pub fn packed_date(day: u32) -> u16
-    requires { ⌜ day < dayCount ⌝ }
-    ensures { λ r. ⌜ r ≡ packed (dateOf day) ⌝ }
+// The whole table: a look into the constant would copy all of it at each look.
+pub fn table() -> [u16; 852]
+    ensures { λ r. ⌜ r ≡ packedDates ⌝ }
 {
-    DATES[day as usize]
+    DATES
 }
 
 // A packed date has its day in bits 0 to 4, its month in bits 5 to 8 and the years after 2000 in bits 9 to 15.

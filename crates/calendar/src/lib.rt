@@ -3,10 +3,8 @@ mod dates;
 
 use limits::DAY_COUNT;
 ghost use mathlib.Core.Path.{_≡_};
-ghost use Prim.Native.Nat.{_<_};
-ghost use Rattle.limits.specs.Limits.{dayCount};
 ghost use Rattle.calendar.specs.Calendar.{sameDate};
-ghost use Rattle.calendar.specs.Days.{dateOf, schemeMonth};
+ghost use Rattle.calendar.specs.Days.{unpacked, schemeMonth};
 ghost use Rattle.calendar.specs.Answers.{dayAnswer, dateAnswer};
 
 // The number that turns down a wrong day.
@@ -34,12 +32,11 @@ pub enum DateAnswer {
     Refused(u32),
 }
 
-// The date of a day number, unpacked from the table.
-fn date_of(day: u32) -> CalendarDate
-    requires { ⌜ day < dayCount ⌝ }
-    ensures { λ r. ⌜ r ≡ dateOf day ⌝ }
+// The date that a packed date stands for.
+fn unpacked(entry: u16) -> CalendarDate
+    ensures { λ r. ⌜ r ≡ unpacked entry ⌝ }
 {
-    let packed = dates::packed_date(day) as u32;
+    let packed = entry as u32;
     CalendarDate {
         year: 2000 + packed / 512,
         month: packed / 32 % 16,
@@ -65,9 +62,10 @@ pub fn day(year: u32, month: u32, day: u32) -> DayAnswer
     ensures { λ r. ⌜ r ≡ dayAnswer year month day ⌝ }
 {
     let wanted = CalendarDate { year, month, day };
+    let table = dates::table();
     let mut number: u32 = 0;
     while number < DAY_COUNT {
-        if same_date(wanted, date_of(number)) {
+        if same_date(wanted, unpacked(table[number as usize])) {
             return DayAnswer::Day(number);
         }
         number += 1;
@@ -80,10 +78,10 @@ pub fn date(day: u32) -> DateAnswer
     ensures { λ r. ⌜ r ≡ dateAnswer day ⌝ }
 {
     if day < DAY_COUNT {
-        DateAnswer::Date(date_of(day))
-    } else {
-        DateAnswer::Refused(WRONG_DAY)
+        let table = dates::table();
+        return DateAnswer::Date(unpacked(table[day as usize]));
     }
+    DateAnswer::Refused(WRONG_DAY)
 }
 
 // The scheme month of a day: 0 for April 2023 to 11 for March 2024, and 0 for any day outside them.

@@ -8,10 +8,10 @@ use Rattle.calendar.proofs.day.Statement.{statement}
 use Rattle.calendar.proofs.day.Tie as tie
 
 abbrev Inv-loop : tie.InvT-loop
-Inv-loop year month day wanted number₀ number = Sought (dateFrom year month day) number
+Inv-loop year month day wanted table number₀ number = Sought (dateFrom year month day) number
 
 abbrev μ-loop : tie.MeasureT-loop
-μ-loop year month day wanted number₀ number = dayCount - number
+μ-loop year month day wanted table number₀ number = dayCount - number
 
 pub day-spec : {M : Type 1} → statement M
 day-spec =
@@ -19,7 +19,11 @@ day-spec =
     (tie.spec
     Inv-loop
     μ-loop
+    (λ c κs. search needs)
     (λ c. search none-sought)
+    (λ c. search needs)
+    (λ c. search needs)
+    (λ c. search needs)
     (λ c κs. search needs)
     (λ c κs. search needs)
     (λ c. search found)
