@@ -13,6 +13,7 @@ use Rattle.rates.specs.declared.Class.the-variants.{Baseline, Etii, QhsO
 use Rattle.rates.specs.declared.Prices.the-variants.{Limited, Unlimited}
 use Rattle.rates.specs.declared.Contract.{Contract}
 use Rattle.rates.specs.declared.Bill.{Bill}
+use Rattle.rates.specs.Prices.{pricesOf, minimumOf}
 use Rattle.rates.specs.Rates.{part, partOf, classRate, classCap, classOf, rate, cap, amount}
 use Rattle.rates.proofs.Parts.{part-limited, part-unlimited}
 
@@ -29,10 +30,10 @@ class-rate-capped Electricity Baseline R S = omega (arith, limited-le 30200 1961
 class-rate-capped Gas Baseline R S = omega (arith, limited-le 10700 697 10700 R S)
 class-rate-capped Electricity Etii R S = omega (arith, limited-le 30200 1961 30200 R S, limited-le 18500 8900 18500 R S)
 class-rate-capped Gas Etii R S = omega (arith, limited-le 10700 697 10700 R S, limited-le 9900 4000 9900 R S)
-class-rate-capped Electricity QhsOld R S = unlimited-le 34000 R S
-class-rate-capped Electricity QhsNew R S = unlimited-le 28240 R S
-class-rate-capped Gas QhsOld R S = unlimited-le 7830 R S
-class-rate-capped Gas QhsNew R S = unlimited-le 6500 R S
+class-rate-capped Electricity QhsOld R S = unlimited-le _ R S
+class-rate-capped Electricity QhsNew R S = unlimited-le _ R S
+class-rate-capped Gas QhsOld R S = unlimited-le _ R S
+class-rate-capped Gas QhsNew R S = unlimited-le _ R S
 
 -- no rate and no amount within the paper's ranges is higher
 abbrev pub highestRate : ℕ
@@ -50,10 +51,8 @@ class-cap-low Electricity Baseline S h = omega arith
 class-cap-low Gas Baseline S h = omega arith
 class-cap-low Electricity Etii S h = omega arith
 class-cap-low Gas Etii S h = omega arith
-class-cap-low Electricity QhsOld S h = held-le 34000 S h
-class-cap-low Electricity QhsNew S h = held-le 28240 S h
-class-cap-low Gas QhsOld S h = held-le 7830 S h
-class-cap-low Gas QhsNew S h = held-le 6500 S h
+class-cap-low fuel QhsOld S h = held-le (minimumOf (pricesOf fuel QhsOld)) S h
+class-cap-low fuel QhsNew S h = held-le (minimumOf (pricesOf fuel QhsNew)) S h
 
 -- rate ≤ cap
 pub rate-capped : (contract : Contract) (bill : Bill) → rate contract bill ≤ cap contract bill

@@ -20,7 +20,7 @@ use Rattle.rates.specs.declared.Class.the-variants.{Baseline, Etii, QhsO
 use Rattle.rates.specs.declared.Rated.{Rated}
 use Rattle.rates.specs.declared.Prices.{Prices}
 use Rattle.rates.specs.declared.Prices.the-variants.{Limited, Unlimited}
-use Rattle.rates.specs.Prices.{pricesOf}
+use Rattle.rates.specs.Prices.{pricesOf, minimumOf}
 
 -- the least of R − support price, maximum discount and S − minimum; of QHS the lesser of R and S − QHS minimum
 unfoldable pub leastTerm : Prices → (R S : ℕ) → ℤ
@@ -62,16 +62,20 @@ certifiedClass (certificate.Qhs effective) kind first = cond (leb effective firs
 unfoldable pub classOf : Contract → (first : ℕ) → Class
 classOf contract first = certifiedClass (contract .certificate) (contract .kind) first
 
--- a class's cap; of QHS 10 times max(S − QHS minimum, 0)
+-- a class's cap: baseline 19,610 electricity and 6,970 gas; ETII 68,183 and 30,091; QHS 10 times max(S − QHS minimum, 0)
+abbrev pub baselineCap : Fuel → ℕ
+baselineCap Electricity = 19610
+baselineCap Gas = 6970
+
+abbrev pub etiiCap : Fuel → ℕ
+etiiCap Electricity = 68183
+etiiCap Gas = 30091
+
 unfoldable pub classCap : Fuel → Class → (S : ℕ) → ℕ
-classCap Electricity Baseline S = 19610
-classCap Gas Baseline S = 6970
-classCap Electricity Etii S = 68183
-classCap Gas Etii S = 30091
-classCap Electricity QhsOld S = 10 * atLeastZero (pos S -ℤ pos 34000)
-classCap Electricity QhsNew S = 10 * atLeastZero (pos S -ℤ pos 28240)
-classCap Gas QhsOld S = 10 * atLeastZero (pos S -ℤ pos 7830)
-classCap Gas QhsNew S = 10 * atLeastZero (pos S -ℤ pos 6500)
+classCap fuel Baseline S = baselineCap fuel
+classCap fuel Etii S = etiiCap fuel
+classCap fuel QhsOld S = 10 * atLeastZero (pos S -ℤ pos (minimumOf (pricesOf fuel QhsOld)))
+classCap fuel QhsNew S = 10 * atLeastZero (pos S -ℤ pos (minimumOf (pricesOf fuel QhsNew)))
 
 -- a bill's rate under its contract, from its first day, R and S
 unfoldable pub rate : Contract → Bill → ℕ

@@ -8,6 +8,8 @@ use Rattle.rates.specs.declared.Kind.{Kind}
 use Rattle.rates.specs.declared.Kind.the-variants.{Fixed, Flexible}
 use Rattle.rates.specs.declared.Certificate.{Certificate}
 use Rattle.rates.specs.declared.Certificate.the-variants.{None, Etii, Qhs}
+use Rattle.rates.specs.declared.Contract.{Contract}
+use Rattle.rates.specs.declared.Bill.{Bill}
 use Rattle.rates.specs.Rates.{rate}
 
 -- a row of the table: a contract, a bill's first day, R and S, and the rate in ticks
@@ -23,11 +25,15 @@ pub record Example : Type 0 where
 unfoldable pub example : Fuel → Kind → Certificate → (first R S ticks : ℕ) → Example
 example f k c d R S t = record { fuel = f; kind = k; certificate = c; first = d; R = R; S = S; ticks = t }
 
--- the rate of such a bill
+-- the contract and the bill of a row, and the bill's rate
+unfoldable pub contractOf : Example → Contract
+contractOf e = record { fuel = e .fuel; kind = e .kind; certificate = e .certificate }
+
+unfoldable pub billOf : Example → Bill
+billOf e = record { contract = 0; first = e .first; last = e .first; kwh = 1; reference = e .R; supply = e .S }
+
 unfoldable pub rated : Example → ℕ
-rated e = rate
-    (record { fuel = e .fuel; kind = e .kind; certificate = e .certificate })
-    (record { contract = 0; first = e .first; last = e .first; kwh = 1; reference = e .R; supply = e .S })
+rated e = rate (contractOf e) (billOf e)
 
 -- P1 to P12, in their order
 unfoldable pub examples : List Example
