@@ -23,4 +23,5 @@ pub mod SheetAnswers
 pub mod Postings
 pub mod BalanceByRates
 pub mod Run
+pub mod BookEntries
 pub mod BoundaryExamples

@@ -2,7 +2,7 @@
 -- does. Assumes nothing.
 use mathlib.Core.Path.{_≡_}
 use mathlib.Core.Bool.{Bool, true}
-use mathlib.Core.List.{List, [], _∷_, _++_, map}
+use mathlib.Core.List.{List, [], _∷_, map}
 use Prim.Native.Nat.{ℕ}
 use lib.Dec.{eqb}
 use lib.ListN.{replicate}
@@ -17,6 +17,7 @@ use Rattle.model.specs.Rules.{refusal}
 use Rattle.model.specs.PresentRules.{presentRules}
 use Rattle.model.specs.Sheet.{Sheet, view}
 use Rattle.model.specs.Run.{zeroBook}
+use Rattle.model.specs.BookEntries.{pricedAt}
 
 -- a call made on a sheet, and the number that turns it down
 pub record Boundary : Type 0 where
@@ -53,7 +54,7 @@ claiming n = sheetWith 0 [] n
 
 -- a price of contract 1 in April 2023: entry 1,716 of the book
 unfoldable pub april : List ℕ
-april = replicate 1716 0 ++ (1 ∷ replicate 23 0)
+april = pricedAt 1716
 
 -- 3: the book isn't 1,740 entries or has one above 999,999
 unfoldable pub atNumber3 : List Boundary
