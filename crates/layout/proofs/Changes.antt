@@ -122,12 +122,17 @@ module _ (R : Rules) (L : Layout) where
         (ap (arrayOut (L .row)) (free-places rowCount) ∙ free-array (L .row) rows-aligned rowCount)
         ∙ replicate-append-replicate (R .contractLimit * size (whole (L .contract))) (rowCount * size (whole (L .row))) 0
 
-    -- it is its header over zeros
+    -- its header, and zeros after it
+    pub fresh-parts : bytesOf R L (fresh t) ≡ headerBytes R L (fresh t) ++ replicate (R .contractLimit * size (whole (L .contract)) + rowCount * size (whole (L .row))) 0
+    unfolding bytesOf
+    fresh-parts = ap (λ (b : List ℕ). headerBytes R L (fresh t) ++ b) free-bytes
+
+    -- so it is its header over zeros
     pub fresh-bytes : bytesOf R L (fresh t) ≡ replaceAt 0 (pack (L .header) (t ∷ 0 ∷ 0 ∷ [])) (replicate (ledgerLength R L) 0)
-    unfolding bytesOf fresh ledgerLength firstRow
+    unfolding fresh ledgerLength firstRow
     fresh-bytes =
         let n : ℕ = R .contractLimit * size (whole (L .contract)) + rowCount * size (whole (L .row)) in
         let sum : firstContract R L + n ≡ ledgerLength R L = omega arith in
-        ap (λ (b : List ℕ). headerBytes R L (fresh t) ++ b) free-bytes
+        fresh-parts
         ∙ header-written (t ∷ 0 ∷ 0 ∷ []) (replicate (firstContract R L) 0) (replicate n 0) (length-replicate (firstContract R L) 0)
         ∙ ap (replaceAt 0 (headerBytes R L (fresh t))) (replicate-append-replicate (firstContract R L) n 0 ∙ ap (λ (k : ℕ). replicate k 0) sum)

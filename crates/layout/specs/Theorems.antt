@@ -1,10 +1,12 @@
 -- What is established of the packed ledger, by the rules and the layout in force. Assumes nothing.
 use mathlib.Core.Path.{_≡_}
-use mathlib.Core.List.{List}
+use mathlib.Core.List.{List, _∷_}
 use mathlib.Core.Logic.{_↔_}
-use Prim.Native.Nat.{ℕ, _≤_}
+use Prim.Native.Nat.{ℕ, _*_, _≤_}
+use lib.ListN.{length, replicate}
+use Rattle.model.specs.declared.Answer.the-variants.{Refused}
 use Rattle.model.specs.Calls.{CallWithBook}
-use Rattle.model.specs.Ledger.{Ledger}
+use Rattle.model.specs.Ledger.{Ledger, fresh}
 use Rattle.model.specs.WellFormed.{WellFormed}
 use Rattle.model.specs.History.{stateAfter}
 use Rattle.model.specs.BalanceByRates.{EveryHistoryBalancesByRates}
@@ -17,6 +19,10 @@ use Rattle.layout.specs.Present.{rules, layout, Formed, facts, bytes, ma
 -- the length of a packed ledger
 abbrev pub PackedSize : Type 0
 PackedSize = ledgerLength rules layout ≡ 18760
+
+-- "A fresh ledger is zeros but for the territory bit", which is the first
+abbrev pub FreshLedger : Type 0
+FreshLedger = (territory : ℕ) → territory ≤ 1 → bytes (fresh territory) ≡ territory * 128 ∷ replicate 18759 0
 
 -- demand 2: packing then unpacking gives the facts; unpacking then packing a well-formed ledger gives its bytes; and the well-formed
 -- ledgers are exactly the bytes of well-formed facts
@@ -42,6 +48,13 @@ PackedAnswersFromTheSheet = EveryAnswerFromTheSheet rules machine
 -- the move from postings: call by call the rate, the customer's signed amount and the pence of each claim are the posting module's
 abbrev pub PackedSameAsPostings : Type 0
 PackedSameAsPostings = SameAsPostings rules machine
+
+-- number 2 comes before all others: whatever the bytes and the call, where the bytes aren't a well-formed ledger the call is turned down by
+-- number 2 and no byte is changed; and bytes of another length aren't one
+pub record NumberTwoFirst : Type 0 where
+  pub refused : (b : List ℕ) → (Formed b → ⊥) → (c : CallWithBook) → machine .answer b c ≡ Refused 2
+  pub unchanged : (b : List ℕ) → (Formed b → ⊥) → (c : CallWithBook) → machine .step b c ≡ b
+  pub other-length : (b : List ℕ) → (length b ≡ 18760 → ⊥) → Formed b → ⊥
 
 -- number 2 meets no call of a history
 abbrev pub NumberTwoMeetsNoCall : Type 0

@@ -1,4 +1,3 @@
--- Tests of rows, what a call owes, and bytes of other lengths.
+-- Tests of rows, and what a call owes.
 pub mod Rows
 pub mod Answered
-pub mod OtherLengths
