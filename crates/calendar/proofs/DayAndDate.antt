@@ -2,10 +2,9 @@
 use Prim.Native.Nat.{ℕ, zero, suc, _<_}
 use mathlib.Core.Path.{_≡_, refl, sym, ap, _∙_, subst}
 use mathlib.Core.Bool.{Bool, true, false, cond}
-use mathlib.Core.Logic.{_↔_}
 use native.Mathlib.Omega.{arith}
 use lib.Dec.{ltb}
-use borrow.Author.Tests.{lt-ltb, le-ltb, ltb-true, ltb-false}
+use borrow.Author.Tests.{lt-ltb, ltb-true, ltb-false}
 use Rattle.limits.specs.Limits.{dayCount}
 use Rattle.calendar.specs.declared.CalendarDate.{CalendarDate}
 use Rattle.calendar.specs.declared.DayAnswer.{DayAnswer}
@@ -14,7 +13,7 @@ use Rattle.calendar.specs.Calendar.{dateFrom}
 use Rattle.calendar.specs.Days.{dates, dateOf, packed}
 use Rattle.calendar.specs.Answers.{wrongDay, position, answerOfNumber, dayAnswer, dateAnswer}
 use Rattle.calendar.specs.TableOfDates.{DayAndDateInverse}
-use Rattle.calendar.proofs.Positions.{FirstPlace, position-first, first-unique}
+use Rattle.calendar.proofs.Positions.{position-first, first-unique}
 use Rattle.calendar.proofs.Conversions.{late-refused}
 use Rattle.calendar.proofs.Days.{day-count, from-day-to-day}
 use Rattle.basics.proofs.Tables.{adjacent}

@@ -1,15 +1,13 @@
 -- The laws of the table of dates: its length, what one test shows of each day and the next, the dates at its packed entries.
-use Prim.Native.Nat.{ℕ, suc, _≤_, _<_, _+_, _/_, _%_}
+use Prim.Native.Nat.{ℕ, suc, _≤_, _<_}
 use mathlib.Core.Path.{_≡_, refl, sym, ap, _∙_}
 use mathlib.Core.Bool.{Bool, true}
-use mathlib.Core.List.{[], _∷_, map}
 use native.Mathlib.Omega.{arith}
 use lib.ListN.{length, List·getD-map, List·getD-eq-default}
 use Rattle.limits.specs.Limits.{dayCount}
 use Rattle.calendar.specs.declared.CalendarDate.{CalendarDate}
 use Rattle.calendar.specs.TableOfDates.{dateAt}
 use Rattle.calendar.specs.Days.{dates, dateOf, noDate, packed, unpacked, packedDates}
-use Rattle.calendar.proofs.SameDate.{same-equal}
 use Rattle.basics.proofs.Tables.{adjacent, adjacent-at}
 
 -- the table has 852 entries

@@ -1,6 +1,6 @@
 -- Each cap is reached and each price is where the discount begins: the tables by computation, the caps of QHS by the law of a part without
 -- a maximum. Assumes nothing.
-use mathlib.Core.Path.{_≡_, refl, ap}
+use mathlib.Core.Path.{_≡_, refl}
 use Prim.Native.Nat.{ℕ, _*_}
 use native.Mathlib.Omega.{arith}
 use lib.IntN.{pos, _-ℤ_}

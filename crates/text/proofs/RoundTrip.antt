@@ -8,8 +8,7 @@ use borrow.Author.Tests.{le-leb, le-ltb, ltb-true, ltb-false, ne-eqb}
 use lib.Dec.{ltb}
 use lib.ListN.{length, getD, List·getD-append}
 use Rattle.text.specs.declared.reading.Decimal.{Decimal}
-use Rattle.text.specs.declared.reading.Parsed.{Parsed}
-use Rattle.text.specs.Numbers.{digits, isDigit, decimalValue, hasLeadingZero, numberOf}
+use Rattle.text.specs.Numbers.{digits, isDigit, decimalValue, hasLeadingZero, numberOf, NumbersReadBack}
 use Rattle.text.proofs.Digits.{one-digit, last-digit, some-digits, few-digits}
 
 -- ---- digits that are read one after the other
@@ -64,10 +63,9 @@ no-zero-by n false e =
     both true h = h
     both false h = refl
 
--- a number of 32 bits that is written is read back
-pub number-of-digits : (n : ℕ) → n ≤ 4294967295 → numberOf (digits n) ≡ Parsed.Value n
+pub numbers-read-back : NumbersReadBack
 unfolding numberOf
-number-of-digits n h =
+numbers-read-back n h =
     let a = some-digits n in
     let b = few-digits 9 n (omega arith) in
     simp (

@@ -16,7 +16,7 @@ use Rattle.text.specs.Pieces.{prepend, pieces, sameText}
 use Rattle.text.specs.Numbers.{numberOf, numbersOf, followedBy}
 use Rattle.text.specs.Commands.{Form, forms, formNamed, commandWith, commandBy, commandOfWords, commandOf, shortestLine}
 use Rattle.text.proofs.SameText.{not-same-length}
-use Rattle.text.proofs.Commands.{wrong-count}
+use Rattle.text.proofs.Numbers.{wrong-count}
 
 -- ---- pieces, each with the byte that ends it
 size : List (List ℕ) → ℕ

@@ -1,8 +1,9 @@
 -- Numbers in decimal: how they are written, and how they are read.
+use mathlib.Core.Path.{_≡_}
 use mathlib.Core.Bool.{Bool, true, false, cond}
 use mathlib.Core.List.{List, [], _∷_, _++_}
 use mathlib.Core.Option.{Option, none, some}
-use Prim.Native.Nat.{ℕ, zero, suc, _+_, _*_, _-_, _/_, _%_}
+use Prim.Native.Nat.{ℕ, zero, suc, _+_, _*_, _-_, _/_, _%_, _≤_}
 use lib.Dec.{eqb, leb, ltb}
 use lib.IntN.{ℤ, pos, negsuc}
 use lib.ListN.{length, getD}
@@ -56,6 +57,10 @@ numberOf word =
     (cond (ltb 10 (length word)) Parsed.NotNumber
     (cond (hasLeadingZero word) Parsed.NotNumber
     (asNumber (decimalValue 0 word))))
+
+-- a number of 32 bits is read back from the digits that are written for it
+abbrev pub NumbersReadBack : Type 0
+NumbersReadBack = (n : ℕ) → n ≤ 4294967295 → numberOf (digits n) ≡ Parsed.Value n
 
 -- a number before numbers
 abbrev pub followedBy : Parsed → Option (List ℕ) → Option (List ℕ)

@@ -1,22 +1,13 @@
--- What the steps of the reader answer: numbers that are read into an array, and the form at a place of the table.
-use mathlib.Core.Bool.{Bool, true, false, cond}
+-- What the steps of the reader answer: the form at a place of the table of names, and its command. Assumes nothing.
 use mathlib.Core.List.{List}
-use mathlib.Core.Option.{Option, none, some}
+use mathlib.Core.Option.{some}
 use Prim.Native.Nat.{ℕ, zero, suc}
-use lib.Dec.{eqb}
-use lib.ListN.{length, getD}
+use lib.ListN.{getD}
 use Rattle.text.specs.declared.reading.Command.{Command}
-use Rattle.text.specs.Commands.{Takes, Form, form, forms}
-
--- numbers, where there are just so many
-abbrev pub exactly : ℕ → Option (List ℕ) → Option (List ℕ)
-exactly count none = none
-exactly count (some ns) = cond (eqb (length ns) count) (some ns) none
-
--- numbers, where they could be read
-abbrev pub numbersIf : Bool → List ℕ → Option (List ℕ)
-numbersIf true ns = some ns
-numbersIf false ns = none
+use Rattle.text.specs.Bytes.{space}
+use Rattle.text.specs.Pieces.{piecesAfter}
+use Rattle.text.specs.Numbers.{numbersOf}
+use Rattle.text.specs.Commands.{Takes, Form, form, forms, commandBy}
 
 -- a form that makes no command
 abbrev pub noForm : Form
@@ -30,3 +21,7 @@ formAt place = getD forms place noForm
 abbrev pub commandFrom : (k : ℕ) → Takes k → List ℕ → ℕ → Command
 commandFrom zero make ns i = make
 commandFrom (suc k) make ns i = commandFrom k (make (getD ns i 0)) ns (suc i)
+
+-- the command of the call at a place of the table, by the words of a line after the name, which ends at `end`
+abbrev pub callAt : (place : ℕ) (line : List ℕ) (end : ℕ) → Command
+callAt place line end = commandBy (some (formAt place)) (numbersOf (piecesAfter space line end))

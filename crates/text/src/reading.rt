@@ -6,12 +6,10 @@ use model::Call;
 use model::Request;
 ghost use mathlib.Core.Path.{_≡_};
 ghost use Prim.Native.Nat.{_≤_, _<_};
-ghost use lib.ListN.{length, take};
-ghost use Rattle.text.specs.Bytes.{space};
-ghost use Rattle.text.specs.Pieces.{piecesAfter};
-ghost use Rattle.text.specs.Numbers.{decimalValue, hasLeadingZero, numberOf, numbersOf};
-ghost use Rattle.text.specs.Commands.{forms, mostNumbers, commandOf};
-ghost use Rattle.text.specs.ReadingSteps.{exactly, numbersIf, formAt, commandFrom};
+ghost use lib.ListN.{length};
+ghost use Rattle.text.specs.Numbers.{decimalValue, hasLeadingZero, numberOf};
+ghost use Rattle.text.specs.Commands.{forms, commandOf};
+ghost use Rattle.text.specs.ReadingSteps.{formAt, commandFrom, callAt};
 
 // What a line asks for.
 pub enum Command {
@@ -21,7 +19,7 @@ pub enum Command {
     Day { year: u32, month: u32, day: u32 },
     Date { day: u32 },
     Price { index: u32, value: u32 },
-    // A line that can't be read.
+    // Refusal 1: a line that can't be read.
     Unreadable,
 }
 
@@ -102,31 +100,6 @@ fn read_number(word: &[u8]) -> Parsed
     Parsed::Value(value as u32)
 }
 
-// Whether the words after the one that ends at `end` are `count` numbers, which `numbers` then starts with.
-fn read_numbers(line: &[u8], end: usize, count: usize, numbers: &mut [u32; MOST_NUMBERS]) -> bool
-    requires { ⌜ (end ≤ length (now line)) × ((count ≤ mostNumbers) × (length (now numbers) ≡ mostNumbers)) ⌝ }
-    ensures { λ r. ⌜ numbersIf r (take count (now (numbers .exit))) ≡ exactly count (numbersOf (piecesAfter space (now (line .entry)) end)) ⌝ }
-{
-    let mut last = end;
-    let mut k: usize = 0;
-    while k < count {
-        if last == line.len() {
-            return false;
-        }
-        let at = last + 1;
-        last = find(line, at, b' ');
-        let Parsed::Value(value) = read_number(&line[at..last]) else {
-            return false;
-        };
-        numbers[k] = value;
-        k += 1;
-    }
-    if last < line.len() {
-        return false;
-    }
-    true
-}
-
 // How many numbers the call at a place of the table of names takes.
 fn count_at(place: usize) -> usize
     requires { ⌜ place < length forms ⌝ }
@@ -193,6 +166,33 @@ fn command_at(place: usize, n: [u32; MOST_NUMBERS]) -> Command
     }
 }
 
+// The call at a place of the table of names, whose name ends at `end`: the words after it must be as many numbers as it takes.
+fn read_call(line: &[u8], end: usize, place: usize) -> Command
+    requires { ⌜ (end ≤ length (now line)) × (place < length forms) ⌝ }
+    ensures { λ r. ⌜ r ≡ callAt place (now (line .entry)) end ⌝ }
+{
+    let count = count_at(place);
+    let mut numbers = [0u32; MOST_NUMBERS];
+    let mut last = end;
+    let mut k: usize = 0;
+    while k < count {
+        if last == line.len() {
+            return Command::Unreadable;
+        }
+        let at = last + 1;
+        last = find(line, at, b' ');
+        let Parsed::Value(value) = read_number(&line[at..last]) else {
+            return Command::Unreadable;
+        };
+        numbers[k] = value;
+        k += 1;
+    }
+    if last < line.len() {
+        return Command::Unreadable;
+    }
+    command_at(place, numbers)
+}
+
 // A line, without its line feed, as a command.
 pub fn read_command(line: &[u8]) -> Command
     ensures { λ r. ⌜ r ≡ commandOf (now (line .entry)) ⌝ }
@@ -201,9 +201,5 @@ pub fn read_command(line: &[u8]) -> Command
     let Found::At(place) = find_word(&NAMES, &line[..end]) else {
         return Command::Unreadable;
     };
-    let mut numbers = [0u32; MOST_NUMBERS];
-    if !read_numbers(line, end, count_at(place), &mut numbers) {
-        return Command::Unreadable;
-    }
-    command_at(place, numbers)
+    read_call(line, end, place)
 }

@@ -1,16 +1,16 @@
--- `read_numbers` meets its contract. The loop's invariant: the words up to `last` are k numbers, which the array starts
--- with. The measure is how many are still to be read.
+-- `read_call` meets its contract. The loop's invariant: the words up to `last` are k numbers, which the array starts with. The measure is
+-- how many are still to be read.
 use Prim.Native.Nat.{_-_}
 use borrow.Author.Needs.{needs}
 use Rattle.text.proofs.Numbers.{Gathered, none-gathered, too-few, all-read, one-more, goes-on, no-number, number-on}
-use Rattle.text.proofs.reading.read_numbers.Statement.{statement}
-use Rattle.text.proofs.reading.read_numbers.Tie as tie
+use Rattle.text.proofs.reading.read_call.Statement.{statement}
+use Rattle.text.proofs.reading.read_call.Tie as tie
 
 abbrev Inv-loop : tie.InvT-loop
-Inv-loop line end count numbers₀ last₀ k₀ numbers last k = Gathered line end count numbers last k
+Inv-loop line end place count numbers₀ last₀ k₀ numbers last k = Gathered place count line end numbers last k
 
 abbrev μ-loop : tie.MeasureT-loop
-μ-loop line end count numbers₀ last₀ k₀ numbers last k = count - k
+μ-loop line end place count numbers₀ last₀ k₀ numbers last k = count - k
 
 loop-again : tie.Need-loop-again Inv-loop μ-loop
 loop-again c =
@@ -19,12 +19,13 @@ loop-again c =
     let e = f .before in
     number-on (e .before .before .loop .inv) (e .if1 .left) (f .find .ensures) (w .read-number .ensures) (c .before .value .given .1) (search needs)
 
-pub read-numbers-spec : {M : Type 1} → statement M
-read-numbers-spec =
+pub read-call-spec : {M : Type 1} → statement M
+read-call-spec =
     tie.close
     (tie.spec
     Inv-loop
     μ-loop
+    (λ c κs. search needs)
     (λ c. search (none-gathered, needs))
     (λ c. search (too-few, needs))
     (λ c. search needs)
@@ -42,4 +43,5 @@ read-numbers-spec =
     (λ c. search needs)
     loop-again
     (λ c. search (one-more, needs))
+    (λ c κs. search needs)
     (λ c. search (all-read, needs)))
