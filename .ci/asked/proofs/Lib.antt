@@ -1,0 +1,2 @@
+-- What the gate asks for.
+pub mod Asked

@@ -1,0 +1,1 @@
+// What the gate asks for: see proofs/Lib.antt.

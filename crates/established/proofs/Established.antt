@@ -1,0 +1,41 @@
+-- All that is established. Assumes nothing.
+use Rattle.fields.proofs.FieldLaws.{field-laws, field-examples}
+use Rattle.calendar.proofs.TableOfDates.{table-of-dates}
+use Rattle.calendar.proofs.DayAndDate.{day-and-date-inverse}
+use Rattle.rates.proofs.TwelveRates.{twelve-rates, baseline-not-given-to-qhs}
+use Rattle.rates.proofs.CapsAndPrices.{caps-attained, prices-attained}
+use Rattle.model.proofs.BookEntries.{entries-found}
+use Rattle.model.proofs.BoundaryExamples.{at-the-boundaries}
+use Rattle.model.proofs.Postings.{floor-leaves-rest}
+use Rattle.layout.proofs.Theorems.{packed-size, fresh-ledger, round-trips, demand-three, packed-histories-hold-their-facts, packed-answers-from-the-sheet, packed-same-as-postings, number-two-first, number-two-meets-no-call}
+use Rattle.text.proofs.RoundTrip.{numbers-read-back}
+use Rattle.session.proofs.RunTranscript.{the-run-is-printed}
+use Rattle.session.proofs.SessionBalance.{every-session-balances}
+use Rattle.established.specs.Established.{Established}
+
+pub all-established : Established
+all-established = record {
+  number-two-first = number-two-first;
+  at-the-boundaries = at-the-boundaries;
+  table-of-dates = table-of-dates;
+  day-and-date-inverse = day-and-date-inverse;
+  twelve-rates = twelve-rates;
+  baseline-not-given-to-qhs = baseline-not-given-to-qhs;
+  caps-attained = caps-attained;
+  prices-attained = prices-attained;
+  entries-found = entries-found;
+  field-laws = field-laws;
+  field-examples = field-examples;
+  packed-size = packed-size;
+  fresh-ledger = fresh-ledger;
+  round-trips = round-trips;
+  packed-histories-hold-their-facts = packed-histories-hold-their-facts;
+  demand-three = demand-three;
+  packed-answers-from-the-sheet = packed-answers-from-the-sheet;
+  number-two-meets-no-call = number-two-meets-no-call;
+  packed-same-as-postings = packed-same-as-postings;
+  floor-leaves-rest = floor-leaves-rest;
+  numbers-read-back = numbers-read-back;
+  the-run-is-printed = the-run-is-printed;
+  every-session-balances = every-session-balances;
+}

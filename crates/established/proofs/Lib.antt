@@ -1,0 +1,2 @@
+-- The value of that record.
+pub mod Established

@@ -1,0 +1,43 @@
+-- What is established of the product beside the contracts of its functions, in the order of the three demands. One value, in
+-- proofs/Established.antt, gives all of it. Assumes nothing.
+use Rattle.fields.specs.FieldLaws.{FieldLaws, FieldExamples}
+use Rattle.calendar.specs.TableOfDates.{TableOfDates, DayAndDateInverse}
+use Rattle.rates.specs.TwelveRates.{TwelveRates, BaselineNotGivenToQhs}
+use Rattle.rates.specs.CapsAndPrices.{CapsAttained, PricesAttained}
+use Rattle.model.specs.BookEntries.{EntriesFound}
+use Rattle.model.specs.BoundaryExamples.{AtTheBoundaries}
+use Rattle.model.specs.Postings.{FloorLeavesRest}
+use Rattle.layout.specs.Theorems.{PackedSize, FreshLedger, RoundTrips, DemandThree, PackedHistoriesHoldTheirFacts, PackedAnswersFromTheSheet, PackedSameAsPostings, NumberTwoFirst, NumberTwoMeetsNoCall}
+use Rattle.text.specs.Numbers.{NumbersReadBack}
+use Rattle.session.specs.RunTranscript.{TheRunIsPrinted}
+use Rattle.session.specs.SessionBalance.{EverySessionBalances}
+
+pub record Established : Type 0 where
+  -- demand 1: the first refusal that fits
+  pub number-two-first : NumberTwoFirst
+  pub at-the-boundaries : AtTheBoundaries
+  pub table-of-dates : TableOfDates
+  pub day-and-date-inverse : DayAndDateInverse
+  -- demand 2: the formula and the prices that it takes
+  pub twelve-rates : TwelveRates
+  pub baseline-not-given-to-qhs : BaselineNotGivenToQhs
+  pub caps-attained : CapsAttained
+  pub prices-attained : PricesAttained
+  pub entries-found : EntriesFound
+  -- demand 2: the packed ledger, both ways
+  pub field-laws : FieldLaws
+  pub field-examples : FieldExamples
+  pub packed-size : PackedSize
+  pub fresh-ledger : FreshLedger
+  pub round-trips : RoundTrips
+  pub packed-histories-hold-their-facts : PackedHistoriesHoldTheirFacts
+  -- demand 3: every history balances, and the move from postings
+  pub demand-three : DemandThree
+  pub packed-answers-from-the-sheet : PackedAnswersFromTheSheet
+  pub number-two-meets-no-call : NumberTwoMeetsNoCall
+  pub packed-same-as-postings : PackedSameAsPostings
+  pub floor-leaves-rest : FloorLeavesRest
+  -- the program
+  pub numbers-read-back : NumbersReadBack
+  pub the-run-is-printed : TheRunIsPrinted
+  pub every-session-balances : EverySessionBalances

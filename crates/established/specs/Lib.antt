@@ -1,0 +1,2 @@
+-- What is established, in one record.
+pub mod Established

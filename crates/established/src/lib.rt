@@ -1,0 +1,1 @@
+// What is established of the product, gathered under one statement. This crate is mathematics: specs/ and proofs/.
