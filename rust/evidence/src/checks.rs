@@ -4,6 +4,7 @@ use crate::graph::Graph;
 use crate::imports::Import;
 use crate::page::{Page, Statement, PAGE};
 use crate::repository::{module_name, Node, Repository};
+use std::collections::BTreeSet;
 
 /// The record whose fields are what is established.
 const RECORD: Node<'static> = Node {
@@ -31,6 +32,7 @@ pub fn errors(page: &Page, repository: &Repository) -> Vec<String> {
         undeclared_files(repository),
         not_established(&graph),
         unreached_statements(page, &graph),
+        unread_files(page, &graph),
         dead_definitions(repository, &graph),
     ]
     .concat()
@@ -79,6 +81,17 @@ fn unreached_statements(page: &Page, graph: &Graph) -> Vec<String> {
     });
     unreached
         .map(|Statement { name, file }| format!("{PAGE}: {name} in {file} {UNREACHED}"))
+        .collect()
+}
+
+/// Files that a reader of the record has to read, and that the page doesn't name: those of the
+/// definitions that are reached from it.
+fn unread_files(page: &Page, graph: &Graph) -> Vec<String> {
+    let reached = graph.reached([RECORD]).into_iter();
+    let files: BTreeSet<&str> = reached.map(|node| node.file).collect();
+    let unread = files.into_iter().filter(|file| !page.files.contains(*file));
+    unread
+        .map(|file| format!("{PAGE}: {file} is reached from the record and isn't on the page"))
         .collect()
 }
 
@@ -141,8 +154,9 @@ mod tests {
         ),
     ];
 
-    const STATEMENTS: &str = "`SumsMeet` in `crates/a/specs/Sums.antt`, `spare` in \
-                              `crates/a/specs/Sums.antt`, `f` in `crates/a/src/lib.rt`";
+    const TEXT: &str = "`SumsMeet` in `crates/a/specs/Sums.antt`, `spare` in \
+                        `crates/a/specs/Sums.antt`, `f` in `crates/a/src/lib.rt`, \
+                        `crates/established/specs/Established.antt`";
 
     /// Holds the errors of the files, with a change in one of them, to those expected.
     fn expect(file: &str, from: &str, to: &str, expected: &[String]) {
@@ -156,13 +170,13 @@ mod tests {
             };
             (path.to_string(), text)
         });
-        let errors = errors(&Page::new(STATEMENTS), &Repository::new(changed));
+        let errors = errors(&Page::new(TEXT), &Repository::new(changed));
         assert_eq!(errors, expected, "of {to} for {from} in {file}");
     }
 
     #[test]
     fn nothing_is_wrong_with_the_files() {
-        assert!(errors(&Page::new(STATEMENTS), &repository(&FILES)).is_empty());
+        assert!(errors(&Page::new(TEXT), &repository(&FILES)).is_empty());
     }
 
     #[test]
@@ -217,6 +231,16 @@ mod tests {
             format!("{file}:3: spare {DEAD}"),
         ];
         expect("crates/a/src/lib.rt", "spare }", "A }", &errors);
+    }
+
+    #[test]
+    fn a_file_that_the_page_leaves_out_is_unread() {
+        let page = Page::new("`spare` in `crates/a/specs/Sums.antt`");
+        let error = format!(
+            "{PAGE}: {} is reached from the record and isn't on the page",
+            RECORD.file
+        );
+        assert_eq!(errors(&page, &repository(&FILES)), [error]);
     }
 
     #[test]

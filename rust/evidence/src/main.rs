@@ -1,8 +1,9 @@
 //! Holds the evidence page and the crates' statements and proofs to each other, by the repository's
 //! text alone, without the prover: each name on the page is in the repository; each statement that
 //! the page names is reached from the record of what is established or from a function's contract;
-//! and each definition is reached from what is established or from a function. It prints an error
-//! for each that isn't, and fails where there is one.
+//! each file that the record reaches is on the page; and each definition is reached from what is
+//! established or from a function. It prints an error for each that isn't, and fails where there is
+//! one.
 
 mod checks;
 mod contracts;

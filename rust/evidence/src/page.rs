@@ -26,7 +26,7 @@ pub struct Page {
     pub statements: Vec<Statement>,
     /// Must-fail edits, each as its crate and its label with a `/` between them.
     edits: Vec<String>,
-    files: BTreeSet<String>,
+    pub files: BTreeSet<String>,
 }
 
 /// A statement or a function, and the file that declares it.
