@@ -1,0 +1,2 @@
+-- What reading standard input owes.
+pub mod Reading
