@@ -1,6 +1,4 @@
 // The program: it reads standard input, and writes what the session prints of it. Where it can't, it says so on standard error.
-mod input;
-
 use input::Input;
 use input::read_input;
 use libc::STDERR_FILENO;

@@ -6,7 +6,7 @@ use lib.ListN.{length}
 use lib.Seq.{length-take-le}
 use borrow.Author.Needs.{needs}
 use Rattle.session.specs.Transcript.{mostOutput}
-use Rattle.ebds.specs.Reading.{ReadWithin}
+use Rattle.input.specs.Reading.{ReadWithin}
 use Rattle.ebds.proofs.Arrays.{zeros-length, zeros-room}
 use Rattle.ebds.proofs.main.Statement.{statement}
 use Rattle.ebds.proofs.main.Tie as tie

@@ -1,7 +1,7 @@
 // Standard input, read to its end or until the buffer is full. A read that fails is told apart from the input's end.
 use libc::STDIN_FILENO;
 ghost use lib.ListN.{length};
-ghost use Rattle.ebds.specs.Reading.{ReadWithin};
+ghost use Rattle.input.specs.Reading.{ReadWithin};
 
 // What the input came to.
 pub enum Input {
