@@ -4,13 +4,12 @@ use mathlib.Core.List.{List, [], _∷_, map}
 use mathlib.Core.Logic.{_↔_}
 use Prim.Native.Nat.{ℕ, suc, _<_}
 use lib.ListN.{length, getD}
-use Rattle.limits.specs.Limits.{dayCount}
 use Rattle.calendar.specs.declared.CalendarDate.{CalendarDate}
 use Rattle.calendar.specs.declared.DayAnswer.{DayAnswer}
 use Rattle.calendar.specs.declared.DateAnswer.{DateAnswer}
 use Rattle.calendar.specs.Calendar.{dateFrom, nextDate}
 use Rattle.calendar.specs.Days.{dateOf, unpacked, packedDates}
-use Rattle.calendar.specs.Answers.{wrongDay, dayAnswer, dateAnswer}
+use Rattle.calendar.specs.Answers.{dayAnswer, dateAnswer}
 
 -- the date at an entry of a packed table
 abbrev pub dateAt : List ℕ → ℕ → CalendarDate
@@ -33,5 +32,5 @@ pub record DayAndDateInverse : Type 0 where
   pub inverse : (year month day number : ℕ)
       → (dayAnswer year month day ≡ DayAnswer.Day number) ↔ (dateAnswer number ≡ DateAnswer.Date (dateFrom year month day))
   pub day-refused : (year month day : ℕ)
-      → (dayAnswer year month day ≡ DayAnswer.Refused wrongDay) ↔ ((number : ℕ) → number < dayCount → dateOf number ≡ dateFrom year month day → ⊥)
-  pub date-refused : (number : ℕ) → (dateAnswer number ≡ DateAnswer.Refused wrongDay) ↔ (number < dayCount → ⊥)
+      → (dayAnswer year month day ≡ DayAnswer.Refused 7) ↔ ((number : ℕ) → number < 852 → dateOf number ≡ dateFrom year month day → ⊥)
+  pub date-refused : (number : ℕ) → (dateAnswer number ≡ DateAnswer.Refused 7) ↔ (number < 852 → ⊥)

@@ -1,7 +1,8 @@
 -- Document 01, "Calls": start (territory), a fresh ledger over a buffer of any contents. Assumes nothing.
+use mathlib.Core.Path.{_≡_}
 use mathlib.Core.Bool.{not}
 use mathlib.Core.List.{List, [], _∷_}
-use Prim.Native.Nat.{ℕ, zero, suc}
+use Prim.Native.Nat.{ℕ, zero, suc, _≤_, _<_}
 use lib.Dec.{ltb, eqb}
 use lib.ListN.{length}
 use Rattle.model.specs.declared.Answer.{Answer}
@@ -27,3 +28,9 @@ startAnswer b territory = doneUnlessRefused (startRefusal b territory)
 -- the bytes left: a fresh ledger, with which a history begins, or the buffer as it was
 unfoldable pub startBytes : List ℕ → (territory : ℕ) → List ℕ
 startBytes b territory = unlessRefused (startRefusal b territory) (bytes (fresh territory)) b
+
+-- what that says of any buffer and territory
+pub record StartTests : Type 0 where
+  pub other-length : (b : List ℕ) (territory : ℕ) → (length b ≡ 18760 → ⊥) → (startAnswer b territory ≡ Refused 2) × (startBytes b territory ≡ b)
+  pub no-territory : (b : List ℕ) (territory : ℕ) → length b ≡ 18760 → 1 < territory → (startAnswer b territory ≡ Refused 6) × (startBytes b territory ≡ b)
+  pub started : (b : List ℕ) (territory : ℕ) → length b ≡ 18760 → territory ≤ 1 → (startAnswer b territory ≡ Done) × (startBytes b territory ≡ bytes (fresh territory))

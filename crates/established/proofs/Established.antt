@@ -8,8 +8,12 @@ use Rattle.model.proofs.BookEntries.{entries-found}
 use Rattle.model.proofs.BoundaryExamples.{at-the-boundaries}
 use Rattle.model.proofs.Postings.{floor-leaves-rest}
 use Rattle.layout.proofs.Theorems.{packed-size, fresh-ledger, round-trips, demand-three, packed-histories-hold-their-facts, packed-answers-from-the-sheet, packed-same-as-postings, number-two-first, number-two-meets-no-call}
+use Rattle.layout.proofs.LayoutExamples.{layout-examples}
+use Rattle.contract_calls.proofs.StartAnswers.{start-tests}
 use Rattle.text.proofs.RoundTrip.{numbers-read-back}
+use Rattle.text.proofs.LineExamples.{lines-read}
 use Rattle.session.proofs.RunTranscript.{the-run-is-printed}
+use Rattle.session.proofs.ProgramLimits.{program-limits}
 use Rattle.session.proofs.SessionBalance.{every-session-balances}
 use Rattle.established.specs.Established.{Established}
 
@@ -17,6 +21,7 @@ pub all-established : Established
 all-established = record {
   number-two-first = number-two-first;
   at-the-boundaries = at-the-boundaries;
+  start-tests = start-tests;
   table-of-dates = table-of-dates;
   day-and-date-inverse = day-and-date-inverse;
   twelve-rates = twelve-rates;
@@ -27,6 +32,7 @@ all-established = record {
   field-laws = field-laws;
   field-examples = field-examples;
   packed-size = packed-size;
+  layout-examples = layout-examples;
   fresh-ledger = fresh-ledger;
   round-trips = round-trips;
   packed-histories-hold-their-facts = packed-histories-hold-their-facts;
@@ -36,6 +42,8 @@ all-established = record {
   packed-same-as-postings = packed-same-as-postings;
   floor-leaves-rest = floor-leaves-rest;
   numbers-read-back = numbers-read-back;
+  lines-read = lines-read;
+  program-limits = program-limits;
   the-run-is-printed = the-run-is-printed;
   every-session-balances = every-session-balances;
 }

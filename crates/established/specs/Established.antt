@@ -8,14 +8,19 @@ use Rattle.model.specs.BookEntries.{EntriesFound}
 use Rattle.model.specs.BoundaryExamples.{AtTheBoundaries}
 use Rattle.model.specs.Postings.{FloorLeavesRest}
 use Rattle.layout.specs.Theorems.{PackedSize, FreshLedger, RoundTrips, DemandThree, PackedHistoriesHoldTheirFacts, PackedAnswersFromTheSheet, PackedSameAsPostings, NumberTwoFirst, NumberTwoMeetsNoCall}
+use Rattle.layout.specs.LayoutExamples.{LayoutExamples}
+use Rattle.contract_calls.specs.Start.{StartTests}
 use Rattle.text.specs.Numbers.{NumbersReadBack}
+use Rattle.text.specs.LineExamples.{LinesRead}
 use Rattle.session.specs.RunTranscript.{TheRunIsPrinted}
+use Rattle.session.specs.ProgramLimits.{ProgramLimits}
 use Rattle.session.specs.SessionBalance.{EverySessionBalances}
 
 pub record Established : Type 0 where
   -- demand 1: the first refusal that fits
   pub number-two-first : NumberTwoFirst
   pub at-the-boundaries : AtTheBoundaries
+  pub start-tests : StartTests
   pub table-of-dates : TableOfDates
   pub day-and-date-inverse : DayAndDateInverse
   -- demand 2: the formula and the prices that it takes
@@ -28,6 +33,7 @@ pub record Established : Type 0 where
   pub field-laws : FieldLaws
   pub field-examples : FieldExamples
   pub packed-size : PackedSize
+  pub layout-examples : LayoutExamples
   pub fresh-ledger : FreshLedger
   pub round-trips : RoundTrips
   pub packed-histories-hold-their-facts : PackedHistoriesHoldTheirFacts
@@ -39,5 +45,7 @@ pub record Established : Type 0 where
   pub floor-leaves-rest : FloorLeavesRest
   -- the program
   pub numbers-read-back : NumbersReadBack
+  pub lines-read : LinesRead
+  pub program-limits : ProgramLimits
   pub the-run-is-printed : TheRunIsPrinted
   pub every-session-balances : EverySessionBalances

@@ -4,3 +4,4 @@ pub mod ReplyRoom
 pub mod Lines
 pub mod SessionBalance
 pub mod RunTranscript
+pub mod ProgramLimits

@@ -2,4 +2,5 @@
 pub mod Replies
 pub mod Transcript
 pub mod RunTranscript
+pub mod ProgramLimits
 pub mod SessionBalance

@@ -8,6 +8,7 @@ pub mod Numbers
 pub mod Commands
 pub mod Digits
 pub mod RoundTrip
+pub mod LineExamples
 pub mod Integers
 pub mod Writes
 pub mod ShortestLines

@@ -5,3 +5,4 @@ pub mod Numbers
 pub mod Commands
 pub mod ReadingSteps
 pub mod Lines
+pub mod LineExamples
