@@ -31,6 +31,6 @@ startBytes b territory = unlessRefused (startRefusal b territory) (bytes (fresh 
 
 -- what that says of any buffer and territory
 pub record StartTests : Type 0 where
-  pub other-length : (b : List ℕ) (territory : ℕ) → (length b ≡ 18760 → ⊥) → (startAnswer b territory ≡ Refused 2) × (startBytes b territory ≡ b)
-  pub no-territory : (b : List ℕ) (territory : ℕ) → length b ≡ 18760 → 1 < territory → (startAnswer b territory ≡ Refused 6) × (startBytes b territory ≡ b)
-  pub started : (b : List ℕ) (territory : ℕ) → length b ≡ 18760 → territory ≤ 1 → (startAnswer b territory ≡ Done) × (startBytes b territory ≡ bytes (fresh territory))
+  pub other-length : (b : List ℕ) (territory : ℕ) → (length b ≡ ledgerLength → ⊥) → (startAnswer b territory ≡ Refused 2) × (startBytes b territory ≡ b)
+  pub no-territory : (b : List ℕ) (territory : ℕ) → length b ≡ ledgerLength → 1 < territory → (startAnswer b territory ≡ Refused 6) × (startBytes b territory ≡ b)
+  pub started : (b : List ℕ) (territory : ℕ) → length b ≡ ledgerLength → territory ≤ 1 → (startAnswer b territory ≡ Done) × (startBytes b territory ≡ bytes (fresh territory))

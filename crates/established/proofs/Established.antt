@@ -3,16 +3,18 @@ use Rattle.fields.proofs.FieldLaws.{field-laws, field-examples}
 use Rattle.calendar.proofs.TableOfDates.{table-of-dates}
 use Rattle.calendar.proofs.DayAndDate.{day-and-date-inverse}
 use Rattle.rates.proofs.TwelveRates.{twelve-rates, baseline-not-given-to-qhs}
-use Rattle.rates.proofs.CapsAndPrices.{caps-attained, prices-attained}
+use Rattle.rates.proofs.RateExamples.{caps-attained, prices-attained, classes-applied}
 use Rattle.model.proofs.BookEntries.{entries-found}
 use Rattle.model.proofs.BoundaryExamples.{at-the-boundaries}
+use Rattle.model.proofs.RangeExamples.{ranges-kept}
 use Rattle.model.proofs.Postings.{floor-leaves-rest}
-use Rattle.layout.proofs.Theorems.{packed-size, fresh-ledger, round-trips, demand-three, packed-histories-hold-their-facts, packed-answers-from-the-sheet, packed-same-as-postings, number-two-first, number-two-meets-no-call}
-use Rattle.layout.proofs.LayoutExamples.{layout-examples}
+use Rattle.layout.proofs.Theorems.{packed-size, fresh-ledger, round-trips, claims-kept, demand-three, packed-histories-hold-their-facts, packed-answers-from-the-sheet, packed-same-as-postings, number-two-first, number-two-meets-no-call}
+use Rattle.layout.proofs.LayoutExample.{layout-example}
 use Rattle.contract_calls.proofs.StartAnswers.{start-tests}
 use Rattle.text.proofs.RoundTrip.{numbers-read-back}
 use Rattle.text.proofs.LineExamples.{lines-read}
 use Rattle.session.proofs.RunTranscript.{the-run-is-printed}
+use Rattle.session.proofs.PrintedExamples.{lines-printed}
 use Rattle.session.proofs.ProgramLimits.{program-limits}
 use Rattle.session.proofs.SessionBalance.{every-session-balances}
 use Rattle.established.specs.Established.{Established}
@@ -21,6 +23,7 @@ pub all-established : Established
 all-established = record {
   number-two-first = number-two-first;
   at-the-boundaries = at-the-boundaries;
+  ranges-kept = ranges-kept;
   start-tests = start-tests;
   table-of-dates = table-of-dates;
   day-and-date-inverse = day-and-date-inverse;
@@ -28,13 +31,15 @@ all-established = record {
   baseline-not-given-to-qhs = baseline-not-given-to-qhs;
   caps-attained = caps-attained;
   prices-attained = prices-attained;
+  classes-applied = classes-applied;
   entries-found = entries-found;
   field-laws = field-laws;
   field-examples = field-examples;
   packed-size = packed-size;
-  layout-examples = layout-examples;
+  layout-example = layout-example;
   fresh-ledger = fresh-ledger;
   round-trips = round-trips;
+  claims-kept = claims-kept;
   packed-histories-hold-their-facts = packed-histories-hold-their-facts;
   demand-three = demand-three;
   packed-answers-from-the-sheet = packed-answers-from-the-sheet;
@@ -43,6 +48,7 @@ all-established = record {
   floor-leaves-rest = floor-leaves-rest;
   numbers-read-back = numbers-read-back;
   lines-read = lines-read;
+  lines-printed = lines-printed;
   program-limits = program-limits;
   the-run-is-printed = the-run-is-printed;
   every-session-balances = every-session-balances;

@@ -3,16 +3,18 @@
 use Rattle.fields.specs.FieldLaws.{FieldLaws, FieldExamples}
 use Rattle.calendar.specs.TableOfDates.{TableOfDates, DayAndDateInverse}
 use Rattle.rates.specs.TwelveRates.{TwelveRates, BaselineNotGivenToQhs}
-use Rattle.rates.specs.CapsAndPrices.{CapsAttained, PricesAttained}
+use Rattle.rates.specs.RateExamples.{CapsAttained, PricesAttained, ClassesApplied}
 use Rattle.model.specs.BookEntries.{EntriesFound}
 use Rattle.model.specs.BoundaryExamples.{AtTheBoundaries}
+use Rattle.model.specs.RangeExamples.{RangesKept}
 use Rattle.model.specs.Postings.{FloorLeavesRest}
-use Rattle.layout.specs.Theorems.{PackedSize, FreshLedger, RoundTrips, DemandThree, PackedHistoriesHoldTheirFacts, PackedAnswersFromTheSheet, PackedSameAsPostings, NumberTwoFirst, NumberTwoMeetsNoCall}
-use Rattle.layout.specs.LayoutExamples.{LayoutExamples}
+use Rattle.layout.specs.Theorems.{PackedSize, FreshLedger, RoundTrips, ClaimsKept, DemandThree, PackedHistoriesHoldTheirFacts, PackedAnswersFromTheSheet, PackedSameAsPostings, NumberTwoFirst, NumberTwoMeetsNoCall}
+use Rattle.layout.specs.LayoutExample.{LayoutExample}
 use Rattle.contract_calls.specs.Start.{StartTests}
 use Rattle.text.specs.Numbers.{NumbersReadBack}
 use Rattle.text.specs.LineExamples.{LinesRead}
 use Rattle.session.specs.RunTranscript.{TheRunIsPrinted}
+use Rattle.session.specs.PrintedExamples.{LinesPrinted}
 use Rattle.session.specs.ProgramLimits.{ProgramLimits}
 use Rattle.session.specs.SessionBalance.{EverySessionBalances}
 
@@ -20,6 +22,7 @@ pub record Established : Type 0 where
   -- demand 1: the first refusal that fits
   pub number-two-first : NumberTwoFirst
   pub at-the-boundaries : AtTheBoundaries
+  pub ranges-kept : RangesKept
   pub start-tests : StartTests
   pub table-of-dates : TableOfDates
   pub day-and-date-inverse : DayAndDateInverse
@@ -28,14 +31,16 @@ pub record Established : Type 0 where
   pub baseline-not-given-to-qhs : BaselineNotGivenToQhs
   pub caps-attained : CapsAttained
   pub prices-attained : PricesAttained
+  pub classes-applied : ClassesApplied
   pub entries-found : EntriesFound
   -- demand 2: the packed ledger, both ways
   pub field-laws : FieldLaws
   pub field-examples : FieldExamples
   pub packed-size : PackedSize
-  pub layout-examples : LayoutExamples
+  pub layout-example : LayoutExample
   pub fresh-ledger : FreshLedger
   pub round-trips : RoundTrips
+  pub claims-kept : ClaimsKept
   pub packed-histories-hold-their-facts : PackedHistoriesHoldTheirFacts
   -- demand 3: every history balances, and the move from postings
   pub demand-three : DemandThree
@@ -46,6 +51,7 @@ pub record Established : Type 0 where
   -- the program
   pub numbers-read-back : NumbersReadBack
   pub lines-read : LinesRead
+  pub lines-printed : LinesPrinted
   pub program-limits : ProgramLimits
   pub the-run-is-printed : TheRunIsPrinted
   pub every-session-balances : EverySessionBalances

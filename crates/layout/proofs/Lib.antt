@@ -12,4 +12,4 @@ pub mod Machine
 pub mod PresentLayout
 pub mod Present
 pub mod Theorems
-pub mod LayoutExamples
+pub mod LayoutExample

@@ -2,7 +2,7 @@
 use mathlib.Core.Path.{_≡_, refl, ap, _∙_}
 use mathlib.Core.Bool.{Bool, true, false}
 use mathlib.Core.List.{List, _∷_, _++_}
-use Prim.Native.Nat.{ℕ, zero, suc, _*_, _≤_}
+use Prim.Native.Nat.{ℕ, zero, suc, _-_, _*_, _≤_}
 use native.Mathlib.Omega.{arith}
 use lib.ListN.{replicate, replicate-append-replicate}
 use Rattle.fields.specs.Field.{value, bitsOf, bytesOfBits}
@@ -14,17 +14,20 @@ use Rattle.model.proofs.HoldsFacts.{bytes-hold}
 use Rattle.model.proofs.SheetAnswers.{bytes-answer-from-the-sheet, accepted-claim-leaves-rest}
 use Rattle.model.proofs.Postings.{bytes-same-as-postings}
 use Rattle.model.proofs.BytesBalance.{bytes-balance, bytes-well-formed}
-use Rattle.layout.specs.Layout.{firstContract, firstRow, ledgerLength, headerBytes, wellFormed, format}
+use Rattle.layout.specs.Layout.{headerBytes, wellFormed, format}
+use Rattle.layout.specs.Offsets.{ledgerLength}
 use Rattle.layout.specs.Present.{rules, layout, Formed, machine}
-use Rattle.layout.specs.Theorems.{PackedSize, FreshLedger, RoundTrips, DemandThree, PackedHistoriesHoldTheirFacts, PackedAnswersFromTheSheet, PackedSameAsPostings, NumberTwoMeetsNoCall, NumberTwoFirst}
+use Rattle.layout.specs.Theorems.{PackedSize, FreshLedger, RoundTrips, ClaimsKept, DemandThree, PackedHistoriesHoldTheirFacts, PackedAnswersFromTheSheet, PackedSameAsPostings, NumberTwoMeetsNoCall, NumberTwoFirst}
 use Rattle.layout.proofs.RoundTrips.{unpacked-packed, well-formed-exactly}
-use Rattle.layout.proofs.Present.{present, format-laws, repacked, formed-length}
+use Rattle.layout.proofs.Present.{present, format-laws, formed-length, facts-kept, repacked}
 use Rattle.layout.proofs.Changes.{fresh-parts}
 use Rattle.layout.proofs.Machine.{machine-malformed}
 
 pub packed-size : PackedSize
-unfolding ledgerLength firstRow firstContract size
-packed-size = refl
+packed-size = record { number = refl; formed = formed-length }
+
+pub claims-kept : ClaimsKept
+claims-kept = record { at-most = λ b f. facts-kept b f .claims; no-pence = λ b f. facts-kept b f .unclaimed }
 
 -- the header of a fresh ledger
 fresh-header : (territory : ℕ) → territory ≤ 1 → headerBytes rules layout (fresh territory) ≡ territory * 128 ∷ replicate 7 0
@@ -37,8 +40,8 @@ pub fresh-ledger : FreshLedger
 unfolding size
 fresh-ledger territory h =
     fresh-parts rules layout refl refl territory
-    ∙ ap (λ (header : List ℕ). header ++ replicate 18752 0) (fresh-header territory h)
-    ∙ ap (λ (zeros : List ℕ). territory * 128 ∷ zeros) (replicate-append-replicate 7 18752 0)
+    ∙ ap (λ (header : List ℕ). header ++ replicate (ledgerLength - 8) 0) (fresh-header territory h)
+    ∙ ap (λ (zeros : List ℕ). territory * 128 ∷ zeros) (replicate-append-replicate 7 (ledgerLength - 8) 0)
 
 pub round-trips : RoundTrips
 round-trips = record { facts-back = unpacked-packed present; bytes-back = repacked; exactly = well-formed-exactly present }
@@ -62,14 +65,13 @@ number-two-meets-no-call = bytes-well-formed rules (present .rules) (format rule
 
 pub number-two-first : NumberTwoFirst
 number-two-first = record {
-  refused = λ b not c. machine-malformed present b c (not-formed b not) .answered;
-  unchanged = λ b not c. machine-malformed present b c (not-formed b not) .left;
-  other-length = λ b other formed. other (formed-length b formed);
+  refused = λ b none c. machine-malformed present b c (malformed b none) .answered;
+  unchanged = λ b none c. machine-malformed present b c (malformed b none) .left;
 }
   where
-    not-formed : (b : List ℕ) → (Formed b → ⊥) → wellFormed rules layout b ≡ false
-    not-formed b not = go (wellFormed rules layout b) refl
+    malformed : (b : List ℕ) → (Formed b → ⊥) → wellFormed rules layout b ≡ false
+    malformed b none = go (wellFormed rules layout b) refl
       where
         go : (f : Bool) → wellFormed rules layout b ≡ f → f ≡ false
-        go true e = absurd (not e)
+        go true e = absurd (none e)
         go false e = refl

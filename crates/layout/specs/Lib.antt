@@ -5,4 +5,4 @@ pub mod PresentLayout
 pub mod Offsets
 pub mod Present
 pub mod Theorems
-pub mod LayoutExamples
+pub mod LayoutExample

@@ -2,7 +2,7 @@
 use mathlib.Core.Path.{_≡_}
 use mathlib.Core.List.{List, _∷_}
 use mathlib.Core.Logic.{_↔_}
-use Prim.Native.Nat.{ℕ, _*_, _≤_}
+use Prim.Native.Nat.{ℕ, _-_, _*_, _≤_}
 use lib.ListN.{length, replicate}
 use Rattle.model.specs.declared.Answer.the-variants.{Refused}
 use Rattle.model.specs.Calls.{CallWithBook}
@@ -13,16 +13,17 @@ use Rattle.model.specs.BalanceByRates.{EveryHistoryBalancesByRates}
 use Rattle.model.specs.HoldsFacts.{EveryHistoryHoldsItsFacts}
 use Rattle.model.specs.SheetAnswers.{EveryAnswerFromTheSheet, EveryAcceptedClaimLeavesRest}
 use Rattle.model.specs.Postings.{SameAsPostings}
-use Rattle.layout.specs.Layout.{ledgerLength}
-use Rattle.layout.specs.Present.{rules, layout, Formed, facts, bytes, machine}
+use Rattle.layout.specs.Offsets.{ledgerLength}
+use Rattle.layout.specs.Present.{rules, Formed, facts, bytes, machine}
 
--- the length of a packed ledger
-abbrev pub PackedSize : Type 0
-PackedSize = ledgerLength rules layout ≡ 18760
+-- the length of a packed ledger: as the contracts have it, and as a well-formed ledger has it
+pub record PackedSize : Type 0 where
+  pub number : ledgerLength ≡ 18760
+  pub formed : (b : List ℕ) → Formed b → length b ≡ ledgerLength
 
 -- "A fresh ledger is zeros but for the territory bit", which is the first
 abbrev pub FreshLedger : Type 0
-FreshLedger = (territory : ℕ) → territory ≤ 1 → bytes (fresh territory) ≡ territory * 128 ∷ replicate 18759 0
+FreshLedger = (territory : ℕ) → territory ≤ 1 → bytes (fresh territory) ≡ territory * 128 ∷ replicate (ledgerLength - 1) 0
 
 -- demand 2: packing then unpacking gives the facts; unpacking then packing a well-formed ledger gives its bytes; and the well-formed
 -- ledgers are exactly the bytes of well-formed facts
@@ -30,6 +31,11 @@ pub record RoundTrips : Type 0 where
   pub facts-back : (l : Ledger) → WellFormed rules l → facts (bytes l) ≡ l
   pub bytes-back : (b : List ℕ) → Formed b → bytes (facts b) ≡ b
   pub exactly : (b : List ℕ) → Formed b ↔ ((l : Ledger) × WellFormed rules l × (bytes l ≡ b))
+
+-- "claims at most 1,000, and no pence where no claim was made"
+pub record ClaimsKept : Type 0 where
+  pub at-most : (b : List ℕ) → Formed b → facts b .claims ≤ 1000
+  pub no-pence : (b : List ℕ) → Formed b → facts b .claims ≡ 0 → facts b .pence ≡ 0
 
 -- demand 3, on the bytes: every history balances, with due the sum of kWh times rate over the sheet's standing bills; and a claim that the
 -- sheet accepts as the last call leaves 0 to 9,999
@@ -50,11 +56,10 @@ abbrev pub PackedSameAsPostings : Type 0
 PackedSameAsPostings = SameAsPostings rules machine
 
 -- number 2 comes before all others: whatever the bytes and the call, where the bytes aren't a well-formed ledger the call is turned down by
--- number 2 and no byte is changed; and bytes of another length aren't one
+-- number 2 and no byte is changed
 pub record NumberTwoFirst : Type 0 where
   pub refused : (b : List ℕ) → (Formed b → ⊥) → (c : CallWithBook) → machine .answer b c ≡ Refused 2
   pub unchanged : (b : List ℕ) → (Formed b → ⊥) → (c : CallWithBook) → machine .step b c ≡ b
-  pub other-length : (b : List ℕ) → (length b ≡ 18760 → ⊥) → Formed b → ⊥
 
 -- number 2 meets no call of a history
 abbrev pub NumberTwoMeetsNoCall : Type 0

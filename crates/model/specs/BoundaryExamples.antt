@@ -1,4 +1,4 @@
--- Document 01, "Turned down, in checking order": calls on either side of each limit, with the number that turns each down, 0 where none
+-- Document 01, "Turned down, in checking order": calls on either side of the limits, with the number that turns each down, 0 where none
 -- does. Assumes nothing.
 use mathlib.Core.Path.{_≡_}
 use mathlib.Core.Bool.{Bool, true}
@@ -44,6 +44,10 @@ britain = sheetWith 0 (standing 0 500 510 ∷ standing 0 600 610 ∷ []) 0
 unfoldable pub ireland : Sheet
 ireland = sheetWith 1 (standing 0 500 510 ∷ standing 0 600 610 ∷ []) 0
 
+-- a Northern Ireland ledger with fixed and index electricity, and their prices: entry 5 of the book, the price-fix day, and entry 1,728
+unfoldable pub fixedAndIndex : Sheet
+fixedAndIndex = record { territory = 1; contracts = putContract (putContract noContracts 0 (opening 0 0 5 6)) 1 (opening 0 3 0 0); bills = []; claims = 0 }
+
 -- so many rows held; the test reads no more of them
 unfoldable pub standingBills : ℕ → Sheet
 standingBills n = sheetWith 0 (replicate n (standing 1 486 486)) 0
@@ -81,6 +85,9 @@ atNumber6 =
     ∷ (Call.Open 2 0 3 0 0 with [] on britain gives 6)
     ∷ (Call.Open 2 1 3 0 0 with [] on ireland gives 6)
     ∷ (Call.Open 2 0 3 0 0 with [] on ireland gives 0)
+    ∷ (Call.Open 2 1 0 0 0 with [] on britain gives 0)
+    ∷ (Call.Open 2 0 1 0 0 with [] on britain gives 0)
+    ∷ (Call.Open 2 1 2 0 0 with [] on britain gives 0)
     ∷ (Call.Cert 0 3 511 with [] on britain gives 6)
     ∷ []
 
@@ -115,6 +122,8 @@ atNumber8 =
     ∷ (Call.Bill (requestOf 0 486 499 1 1 1000000) with zeroBook on britain gives 8)
     ∷ (Call.Bill (requestOf 0 486 499 100000000 999999 999999) with zeroBook on britain gives 0)
     ∷ (Call.Bill (requestOf 1 486 515 1 1 1) with april on britain gives 8)
+    ∷ (Call.Bill (requestOf 0 486 515 1 1 1) with pricedAt 5 on fixedAndIndex gives 8)
+    ∷ (Call.Bill (requestOf 1 486 515 1 1 1) with pricedAt 1728 on fixedAndIndex gives 8)
     ∷ []
 
 -- 9: no row of that contract has that first day
@@ -142,6 +151,10 @@ atNumber11 =
     (Call.Bill (requestOf 1 516 545 1 1 0) with april on britain gives 11)
     ∷ (Call.Bill (requestOf 1 515 515 1 1 0) with april on britain gives 0)
     ∷ (Call.Bill (requestOf 0 486 499 1 1 0) with zeroBook on britain gives 0)
+    ∷ (Call.Bill (requestOf 0 486 515 1 1 0) with pricedAt 6 on fixedAndIndex gives 11)
+    ∷ (Call.Bill (requestOf 0 486 515 1 1 0) with pricedAt 5 on fixedAndIndex gives 0)
+    ∷ (Call.Bill (requestOf 1 486 515 1 1 0) with zeroBook on fixedAndIndex gives 11)
+    ∷ (Call.Bill (requestOf 1 486 515 1 1 0) with pricedAt 1728 on fixedAndIndex gives 0)
     ∷ []
 
 -- 12: 1,024 rows are held already
@@ -159,6 +172,8 @@ inCheckingOrder =
     ∷ (Call.Open 64 2 0 0 0 with [] on britain gives 4)
     ∷ (Call.Open 1 2 0 0 0 with [] on britain gives 5)
     ∷ (Call.Open 2 2 0 852 0 with [] on britain gives 6)
+    ∷ (Call.Cert 2 3 852 with [] on britain gives 5)
+    ∷ (Call.Cert 0 3 852 with [] on britain gives 6)
     ∷ (Call.Bill (requestOf 0 485 499 100000001 1 1) with zeroBook on britain gives 7)
     ∷ (Call.Rebill (requestOf 0 501 501 100000001 1 1) with zeroBook on britain gives 8)
     ∷ (Call.Rebill (requestOf 0 501 501 1 1 1) with zeroBook on britain gives 9)

@@ -21,3 +21,4 @@ pub mod BalanceByRates
 pub mod Run
 pub mod BookEntries
 pub mod BoundaryExamples
+pub mod RangeExamples

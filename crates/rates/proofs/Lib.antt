@@ -1,5 +1,5 @@
 -- Laws of parts, rates and caps, and the paper's twelve rates.
 pub mod Parts
 pub mod TwelveRates
-pub mod CapsAndPrices
+pub mod RateExamples
 pub mod WithinCaps

@@ -2,4 +2,4 @@
 pub mod Prices
 pub mod Rates
 pub mod TwelveRates
-pub mod CapsAndPrices
+pub mod RateExamples

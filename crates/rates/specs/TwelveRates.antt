@@ -26,14 +26,14 @@ unfoldable pub example : Fuel → Kind → Certificate → (first R S ticks : �
 example f k c d R S t = record { fuel = f; kind = k; certificate = c; first = d; R = R; S = S; ticks = t }
 
 -- the contract and the bill of a row, and the bill's rate
-unfoldable pub contractOf : Example → Contract
-contractOf e = record { fuel = e .fuel; kind = e .kind; certificate = e .certificate }
+unfoldable pub contractIn : Example → Contract
+contractIn e = record { fuel = e .fuel; kind = e .kind; certificate = e .certificate }
 
-unfoldable pub billOf : Example → Bill
-billOf e = record { contract = 0; first = e .first; last = e .first; kwh = 1; reference = e .R; supply = e .S }
+unfoldable pub billIn : Example → Bill
+billIn e = record { contract = 0; first = e .first; last = e .first; kwh = 1; reference = e .R; supply = e .S }
 
 unfoldable pub rated : Example → ℕ
-rated e = rate (contractOf e) (billOf e)
+rated e = rate (contractIn e) (billIn e)
 
 -- P1 to P12, in their order
 unfoldable pub examples : List Example

@@ -5,3 +5,4 @@ pub mod Lines
 pub mod SessionBalance
 pub mod RunTranscript
 pub mod ProgramLimits
+pub mod PrintedExamples

@@ -9,8 +9,7 @@ use Rattle.text.specs.Pieces.{pieces, sameText}
 use Rattle.text.specs.Numbers.{digitsBy, digits, decimalValue, numberOf, numbersOf}
 use Rattle.text.specs.Commands.{formNamed, commandOf}
 use Rattle.text.specs.Lines.{lineText}
-use Rattle.model.specs.declared.Call.{Call}
-use Rattle.model.specs.Calls.{replyOf, requestOf}
+use Rattle.model.specs.Calls.{replyOf, CallWithBook, _with_}
 use Rattle.model.specs.History.{answersTo, ledgerMachine}
 use Rattle.model.specs.Run.{zeroBook, runCalls, runAnswers}
 use Rattle.model.proofs.Refinement.{same-answers}
@@ -23,22 +22,14 @@ use Rattle.session.specs.RunTranscript.{runInput, runOutput, TheRunIsPri
 use Rattle.session.specs.SessionBalance.{emptyLog, logCommand, logOf}
 use Rattle.session.proofs.SessionBalance.{log-answers}
 
+onLedger : CallWithBook → Command
+onLedger (call with book) = Command.OnLedger call
+
 runCommands : List Command
-runCommands =
-    Command.OnLedger (Call.Open 0 0 2 0 0) ∷
-    Command.OnLedger (Call.Bill (requestOf 0 486 515 1000 67030 31980)) ∷
-    Command.OnLedger Call.Claim ∷
-    Command.OnLedger (Call.Cert 0 1 486) ∷
-    Command.OnLedger Call.Claim ∷
-    Command.OnLedger (Call.Rebill (requestOf 0 486 515 901 67030 31980)) ∷
-    Command.OnLedger Call.Claim ∷
-    Command.OnLedger (Call.Cancel 0 486) ∷
-    Command.OnLedger Call.Total ∷
-    Command.OnLedger (Call.Bill (requestOf 64 486 515 1 1 1)) ∷
-    []
+runCommands = map onLedger runCalls
 
 run-read : inputCommands runInput ≡ runCommands
-unfolding runInput runCommands inputCommands commandsOf commandsOfPieces commandOf pieces sameText decimalValue numberOf numbersOf formNamed
+unfolding runInput runCommands runCalls onLedger inputCommands commandsOf commandsOfPieces commandOf pieces sameText decimalValue numberOf numbersOf formNamed
 run-read = refl
 
 -- the text of lines
@@ -48,11 +39,11 @@ linesText (line ∷ lines) = lineText line ++ linesText lines
 
 -- all lines of the run are lines of its history
 run-lines : printed (exchanges initial runCommands) ≡ linesText (logOf runCommands .replies)
-unfolding runCommands linesText printed logOf logCommand emptyLog
+unfolding runCommands runCalls onLedger linesText printed logOf logCommand emptyLog
 run-lines = refl
 
 run-answers : logOf runCommands .replies ≡ map replyOf (answersTo machine 0 runCalls)
-unfolding runCommands runCalls zeroBook logOf logCommand emptyLog
+unfolding runCommands runCalls onLedger zeroBook logOf logCommand emptyLog
 run-answers = log-answers runCommands
 
 model-answers : answersTo machine 0 runCalls ≡ runAnswers

@@ -3,4 +3,5 @@ pub mod Replies
 pub mod Transcript
 pub mod RunTranscript
 pub mod ProgramLimits
+pub mod PrintedExamples
 pub mod SessionBalance

@@ -1,0 +1,42 @@
+-- Document 01, "The packed ledger, 18,760 bytes": a ledger with a contract and a row, and its bytes up to that row. Assumes nothing.
+use mathlib.Core.Path.{_≡_}
+use mathlib.Core.List.{List, [], _∷_, _++_}
+use Prim.Native.Nat.{ℕ}
+use lib.ListN.{take, replicate}
+use Rattle.rates.specs.declared.Fuel.the-variants.{Gas}
+use Rattle.rates.specs.declared.Kind.the-variants.{Fixed}
+use Rattle.rates.specs.declared.Certificate.the-variants.{Qhs}
+use Rattle.rates.specs.declared.Contract.{Contract}
+use Rattle.model.specs.declared.Row.{Row}
+use Rattle.model.specs.Contracts.{noContracts, putContract}
+use Rattle.model.specs.Ledger.{Ledger}
+use Rattle.layout.specs.Present.{bytes}
+
+-- gas, its price fixed on day 485, entered on day 851, QHS from day 511 on
+unfoldable pub contract : Contract
+contract = record { fuel = Gas; kind = Fixed 485 851; certificate = Qhs 511 }
+
+-- contract 5, days 511 to 515, 100,000,000 kWh, R 40,000, S 999,999, 40,000,000,000,000 ticks
+unfoldable pub row : Row
+row = record {
+  bill = record { contract = 5; first = 511; last = 515; kwh = 100000000; reference = 40000; supply = 999999 };
+  amount = 40000000000000;
+}
+
+-- Northern Ireland, claims made 1,000, net pence claimed 123,456,789,012
+unfoldable pub ledger : Ledger
+ledger = record { territory = 1; contracts = putContract noContracts 5 contract; rows = row ∷ []; claims = 1000; pence = 123456789012 }
+
+-- the bytes of the header, of the contract and of the row
+unfoldable pub headerBytes : List ℕ
+headerBytes = 0x81 ∷ 0xf4 ∷ 0x00 ∷ 0x1c ∷ 0xbe ∷ 0x99 ∷ 0x1a ∷ 0x14 ∷ []
+
+unfoldable pub contractBytes : List ℕ
+contractBytes = 0xc7 ∷ 0x97 ∷ 0x53 ∷ 0x9f ∷ 0xf0 ∷ []
+
+unfoldable pub rowBytes : List ℕ
+rowBytes = 0x8a ∷ 0xff ∷ 0xc0 ∷ 0x77 ∷ 0xd7 ∷ 0x84 ∷ 0x00 ∷ 0x27 ∷ 0x10 ∷ 0x3d ∷ 0x08 ∷ 0xfc ∷ 0x24 ∷ 0x61 ∷ 0x39 ∷ 0xca ∷ 0x80 ∷ 0x00 ∷ []
+
+-- the header in bytes 0 to 7, contract 5 in bytes 33 to 37, the first row in bytes 328 to 345
+abbrev pub LayoutExample : Type 0
+LayoutExample = take 346 (bytes ledger) ≡ headerBytes ++ (replicate 25 0 ++ (contractBytes ++ (replicate 290 0 ++ rowBytes)))

@@ -1,0 +1,73 @@
+-- Document 01, "Well formed": held rows and open contracts on either side of the ranges. Assumes nothing.
+use mathlib.Core.Path.{_≡_}
+use mathlib.Core.Bool.{Bool, true, false}
+use mathlib.Core.List.{List, [], _∷_, map}
+use Prim.Native.Nat.{ℕ}
+use Rattle.rates.specs.declared.Fuel.the-variants.{Electricity}
+use Rattle.rates.specs.declared.Kind.{Kind}
+use Rattle.rates.specs.declared.Kind.the-variants.{Fixed, Flexible}
+use Rattle.rates.specs.declared.Certificate.the-variants.{None}
+use Rattle.model.specs.PresentRules.{contractRanges, billOk}
+
+-- a held row of a fixed or of a flexible contract, and whether it keeps the ranges
+pub record HeldBill : Type 0 where
+  pub kind : Kind
+  pub first : ℕ
+  pub last : ℕ
+  pub kwh : ℕ
+  pub reference : ℕ
+  pub supply : ℕ
+  pub kept : Bool
+
+abbrev pub heldBill : Kind → (first last kwh reference supply : ℕ) → Bool → HeldBill
+heldBill kind first last kwh reference supply kept =
+    record { kind = kind; first = first; last = last; kwh = kwh; reference = reference; supply = supply; kept = kept }
+
+-- "486 ≤ first ≤ last ≤ 851", kWh at most 100,000,000, R and S at most 999,999, "R 0 only for flexible"
+unfoldable pub heldBills : List HeldBill
+heldBills =
+    heldBill (Fixed 0 0) 486 851 100000000 999999 999999 true
+    ∷ heldBill (Fixed 0 0) 485 851 100000000 999999 999999 false
+    ∷ heldBill (Fixed 0 0) 486 852 100000000 999999 999999 false
+    ∷ heldBill (Fixed 0 0) 500 499 100000000 999999 999999 false
+    ∷ heldBill (Fixed 0 0) 486 851 100000001 999999 999999 false
+    ∷ heldBill (Fixed 0 0) 486 851 100000000 1000000 999999 false
+    ∷ heldBill (Fixed 0 0) 486 851 100000000 999999 1000000 false
+    ∷ heldBill (Fixed 0 0) 486 851 0 0 0 false
+    ∷ heldBill Flexible 486 851 0 0 0 true
+    ∷ []
+
+unfoldable pub keepsRanges : HeldBill → Bool
+keepsRanges e = billOk
+    (record { fuel = Electricity; kind = e .kind; certificate = None })
+    (record { contract = 0; first = e .first; last = e .last; kwh = e .kwh; reference = e .reference; supply = e .supply })
+
+-- the numbers of an open contract of Great Britain: fuel, kind, price-fix day, entry day, class, effective day
+unfoldable pub contractsInRange : List (List ℕ)
+contractsInRange =
+    (1 ∷ 0 ∷ 851 ∷ 851 ∷ 0 ∷ 0 ∷ [])
+    ∷ (0 ∷ 1 ∷ 0 ∷ 0 ∷ 1 ∷ 486 ∷ [])
+    ∷ (0 ∷ 2 ∷ 0 ∷ 0 ∷ 2 ∷ 511 ∷ [])
+    ∷ (0 ∷ 2 ∷ 0 ∷ 0 ∷ 1 ∷ 851 ∷ [])
+    ∷ []
+
+unfoldable pub contractsOutOfRange : List (List ℕ)
+contractsOutOfRange =
+    (0 ∷ 3 ∷ 0 ∷ 0 ∷ 0 ∷ 0 ∷ [])
+    ∷ (0 ∷ 0 ∷ 852 ∷ 0 ∷ 0 ∷ 0 ∷ [])
+    ∷ (0 ∷ 0 ∷ 0 ∷ 852 ∷ 0 ∷ 0 ∷ [])
+    ∷ (0 ∷ 1 ∷ 1 ∷ 0 ∷ 0 ∷ 0 ∷ [])
+    ∷ (0 ∷ 1 ∷ 0 ∷ 1 ∷ 0 ∷ 0 ∷ [])
+    ∷ (0 ∷ 1 ∷ 0 ∷ 0 ∷ 3 ∷ 511 ∷ [])
+    ∷ (0 ∷ 1 ∷ 0 ∷ 0 ∷ 0 ∷ 1 ∷ [])
+    ∷ (0 ∷ 1 ∷ 0 ∷ 0 ∷ 1 ∷ 485 ∷ [])
+    ∷ (0 ∷ 1 ∷ 0 ∷ 0 ∷ 1 ∷ 852 ∷ [])
+    ∷ (0 ∷ 1 ∷ 0 ∷ 0 ∷ 2 ∷ 510 ∷ [])
+    ∷ []
+
+pub record RangesKept : Type 0 where
+  pub bills : map keepsRanges heldBills ≡ map (λ e. e .kept) heldBills
+  pub in-range : map (contractRanges 0) contractsInRange ≡ map (λ _. true) contractsInRange
+  pub out-of-range : map (contractRanges 0) contractsOutOfRange ≡ map (λ _. false) contractsOutOfRange
+  pub index-in-ireland : contractRanges 1 (0 ∷ 3 ∷ 0 ∷ 0 ∷ 0 ∷ 0 ∷ []) ≡ true
+  pub gas-index : contractRanges 1 (1 ∷ 3 ∷ 0 ∷ 0 ∷ 0 ∷ 0 ∷ []) ≡ false

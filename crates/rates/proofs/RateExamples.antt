@@ -1,0 +1,45 @@
+-- The examples of rates, by computation; the caps of QHS, by the law of a part without a maximum. Assumes nothing.
+use mathlib.Core.Path.{_≡_, refl}
+use mathlib.Core.Bool.{Bool, true, false, not, cond, _&&_}
+use Prim.Native.Nat.{ℕ, _*_}
+use native.Mathlib.Omega.{arith}
+use lib.Dec.{leb}
+use lib.IntN.{pos, _-ℤ_}
+use Rattle.limits.specs.Limits.{newMinimumDay}
+use Rattle.basics.specs.Integers.{atLeastZero}
+use Rattle.basics.proofs.Integers.{difference-at-least-zero}
+use Rattle.rates.specs.declared.Fuel.{Fuel}
+use Rattle.rates.specs.declared.Fuel.the-variants.{Electricity, Gas}
+use Rattle.rates.specs.declared.Kind.{Kind}
+use Rattle.rates.specs.declared.Class.the-variants.{QhsOld, QhsNew}
+use Rattle.rates.specs.declared.Prices.the-variants.{Unlimited}
+use Rattle.rates.specs.Rates.{leastTerm, part, partOf, classRate, classCap, enteredEarly, qhsClass, classOf, rate, cap}
+use Rattle.rates.specs.TwelveRates.{example, contractIn, billIn, rated}
+use Rattle.rates.specs.RateExamples.{capped, caps, discountsBegin, classes, CapsAttained, PricesAttained, ClassesApplied}
+use Rattle.rates.proofs.Parts.{part-unlimited}
+
+-- where R is S, a part without a maximum is max(S − minimum, 0)
+whole-part : (minimum S : ℕ) → 10 * part (Unlimited minimum) S S ≡ 10 * atLeastZero (pos S -ℤ pos minimum)
+whole-part minimum S = omega (arith, part-unlimited minimum S S, difference-at-least-zero S minimum)
+
+qhs : (fuel : Fuel) (kind : Kind) (first S : ℕ) → classRate fuel (qhsClass kind first) S S ≡ classCap fuel (qhsClass kind first) S
+unfolding qhsClass classRate classCap partOf
+qhs fuel kind first S = by-class fuel (leb newMinimumDay first && not (enteredEarly kind))
+  where
+    by-class : (fuel : Fuel) (new : Bool) → let class = cond new QhsNew QhsOld in classRate fuel class S S ≡ classCap fuel class S
+    by-class Electricity true = whole-part _ S
+    by-class Electricity false = whole-part _ S
+    by-class Gas true = whole-part _ S
+    by-class Gas false = whole-part _ S
+
+pub caps-attained : CapsAttained
+unfolding caps capped example contractIn billIn rated rate cap classOf qhsClass classRate classCap partOf part leastTerm
+caps-attained = record { caps-given = refl; rates-as-high = refl; qhs = qhs }
+
+pub prices-attained : PricesAttained
+unfolding discountsBegin example contractIn billIn rated rate classOf qhsClass classRate partOf part leastTerm
+prices-attained = refl
+
+pub classes-applied : ClassesApplied
+unfolding classes example contractIn billIn rated rate classOf qhsClass classRate partOf part leastTerm
+classes-applied = refl
