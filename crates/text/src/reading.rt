@@ -6,7 +6,8 @@ use model::Call;
 use model::Request;
 ghost use mathlib.Core.Path.{_≡_};
 ghost use Prim.Native.Nat.{_≤_, _<_};
-ghost use lib.ListN.{length};
+ghost use lib.ListN.{length, getD};
+ghost use Rattle.model.specs.Calls.{requestOf};
 ghost use Rattle.text.specs.Numbers.{decimalValue, hasLeadingZero, numberOf};
 ghost use Rattle.text.specs.Commands.{forms, commandOf};
 ghost use Rattle.text.specs.ReadingSteps.{formAt, commandFrom, callAt};
@@ -108,6 +109,20 @@ fn count_at(place: usize) -> usize
     COUNTS[place]
 }
 
+// The request of a bill or rebill, by its numbers.
+fn request(n: [u32; MOST_NUMBERS]) -> Request
+    ensures { λ r. ⌜ r ≡ requestOf (getD n 0 0) (getD n 1 0) (getD n 2 0) (getD n 3 0) (getD n 4 0) (getD n 5 0) ⌝ }
+{
+    Request {
+        contract: n[0],
+        first: n[1],
+        last: n[2],
+        kwh: n[3],
+        supply: n[4],
+        wap: n[5],
+    }
+}
+
 // The command of a call, by its place in the table of names, with the first of the numbers.
 fn command_at(place: usize, n: [u32; MOST_NUMBERS]) -> Command
     ensures { λ r. ⌜ r ≡ commandFrom (formAt place .count) (formAt place .make) n 0 ⌝ }
@@ -117,7 +132,6 @@ fn command_at(place: usize, n: [u32; MOST_NUMBERS]) -> Command
     let c = n[2];
     let d = n[3];
     let e = n[4];
-    let f = n[5];
     match place {
         0 => Command::Start { territory: a },
         1 => Command::OnLedger(Call::Open {
@@ -127,22 +141,8 @@ fn command_at(place: usize, n: [u32; MOST_NUMBERS]) -> Command
             price_fix_day: d,
             entry_day: e,
         }),
-        2 => Command::OnLedger(Call::Bill(Request {
-            contract: a,
-            first: b,
-            last: c,
-            kwh: d,
-            supply: e,
-            wap: f,
-        })),
-        3 => Command::OnLedger(Call::Rebill(Request {
-            contract: a,
-            first: b,
-            last: c,
-            kwh: d,
-            supply: e,
-            wap: f,
-        })),
+        2 => Command::OnLedger(Call::Bill(request(n))),
+        3 => Command::OnLedger(Call::Rebill(request(n))),
         4 => Command::OnLedger(Call::Cert {
             contract: a,
             class: b,
