@@ -7,7 +7,7 @@ use std::collections::BTreeSet;
 pub const PAGE: &str = "docs/EVIDENCE.md";
 
 /// The folders at the root of the repository in which the page names files.
-const FOLDERS: [&str; 5] = ["crates/", "docs/", "include/", "rust/", "examples/"];
+const FOLDERS: [&str; 6] = [".ci/", "crates/", "docs/", "include/", "rust/", "examples/"];
 
 /// What may stand before a name that a file declares.
 const MODIFIERS: [&str; 8] = [
