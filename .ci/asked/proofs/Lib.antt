@@ -1,2 +1,0 @@
--- What the gate asks for.
-pub mod Asked
