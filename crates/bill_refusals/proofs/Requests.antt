@@ -6,7 +6,6 @@ use Prim.Native.Nat.{ℕ, zero, suc, _≤_, _<_}
 use lib.Dec.{ltb, leb}
 use borrow.Author.Tests.{ltb-true, le-leb, lt-leb, le-ltb, lt-ltb}
 use Rattle.limits.specs.Limits.{rowCount}
-use Rattle.basics.specs.Lists.{count}
 use Rattle.basics.proofs.Lists.{count-true}
 use Rattle.rates.specs.declared.Contract.{Contract}
 use Rattle.rates.specs.declared.Bill.{Bill}

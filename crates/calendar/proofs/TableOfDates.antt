@@ -21,14 +21,14 @@ unfolding dates follows
 each-follows = refl
 
 -- the successor rule: the date of each day is the calendar day after the date of the day before
-successor : (day : ℕ) → suc day < dayCount → dateOf (suc day) ≡ nextDate (dateOf day)
+next-date : (day : ℕ) → suc day < dayCount → dateOf (suc day) ≡ nextDate (dateOf day)
 unfolding follows
-successor day inside = same-equal _ _ (from-day-to-day follows each-follows day inside)
+next-date day inside = same-equal _ _ (from-day-to-day follows each-follows day inside)
 
 -- the successor rule of the packed entries
-entry-after : (day : ℕ) → suc day < dayCount → dateAt packedDates (suc day) ≡ nextDate (dateAt packedDates day)
-entry-after day inside = date-at-entry (suc day) ∙ successor day inside ∙ ap nextDate (sym (date-at-entry day))
+successor : (day : ℕ) → suc day < dayCount → dateAt packedDates (suc day) ≡ nextDate (dateAt packedDates day)
+successor day inside = date-at-entry (suc day) ∙ next-date day inside ∙ ap nextDate (sym (date-at-entry day))
 
 pub table-of-dates : TableOfDates
 unfolding dates packedDates unpacked
-table-of-dates = record { entries = refl; successor = entry-after; landmarks = refl }
+table-of-dates = record { entries = refl; successor = successor; landmarks = refl }

@@ -1,4 +1,4 @@
--- The calendar: leap years, the number of days in a month, the day after a date.
+-- The calendar: leap years, the number of days in a month, the day after a date. Assumes nothing.
 use Prim.Native.Nat.{ℕ, _+_, _%_}
 use mathlib.Core.Bool.{Bool, cond, _&&_, _||_}
 use lib.Dec.{eqb, ltb}

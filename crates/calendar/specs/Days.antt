@@ -1,4 +1,4 @@
--- Document 01, "Days": the table of dates, the date of a day number, packed dates, the scheme month of a day.
+-- Document 01, "Days": the table of dates, the date of a day number, packed dates, the scheme month of a day. Assumes nothing.
 use Prim.Native.Nat.{ℕ, zero, suc, _+_, _*_, _-_, _/_, _%_}
 use mathlib.Core.List.{List, [], _∷_, _++_, map}
 use lib.ListN.{getD}

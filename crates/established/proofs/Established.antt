@@ -3,7 +3,7 @@ use Rattle.fields.proofs.FieldLaws.{field-laws, field-examples}
 use Rattle.calendar.proofs.TableOfDates.{table-of-dates}
 use Rattle.calendar.proofs.DayAndDate.{day-and-date-inverse}
 use Rattle.rates.proofs.TwelveRates.{twelve-rates, baseline-not-given-to-qhs}
-use Rattle.rates.proofs.RateExamples.{caps-attained, prices-attained, classes-applied}
+use Rattle.rates.proofs.RateExamples.{caps-attained, discounts-begin, classes-applied}
 use Rattle.model.proofs.BookEntries.{entries-found}
 use Rattle.model.proofs.BoundaryExamples.{at-the-boundaries}
 use Rattle.model.proofs.RangeExamples.{ranges-kept}
@@ -23,14 +23,13 @@ pub all-established : Established
 all-established = record {
   number-two-first = number-two-first;
   at-the-boundaries = at-the-boundaries;
-  ranges-kept = ranges-kept;
   start-tests = start-tests;
   table-of-dates = table-of-dates;
   day-and-date-inverse = day-and-date-inverse;
   twelve-rates = twelve-rates;
   baseline-not-given-to-qhs = baseline-not-given-to-qhs;
   caps-attained = caps-attained;
-  prices-attained = prices-attained;
+  discounts-begin = discounts-begin;
   classes-applied = classes-applied;
   entries-found = entries-found;
   field-laws = field-laws;
@@ -39,6 +38,7 @@ all-established = record {
   layout-example = layout-example;
   fresh-ledger = fresh-ledger;
   round-trips = round-trips;
+  ranges-kept = ranges-kept;
   claims-kept = claims-kept;
   packed-histories-hold-their-facts = packed-histories-hold-their-facts;
   demand-three = demand-three;

@@ -3,7 +3,7 @@
 use Rattle.fields.specs.FieldLaws.{FieldLaws, FieldExamples}
 use Rattle.calendar.specs.TableOfDates.{TableOfDates, DayAndDateInverse}
 use Rattle.rates.specs.TwelveRates.{TwelveRates, BaselineNotGivenToQhs}
-use Rattle.rates.specs.RateExamples.{CapsAttained, PricesAttained, ClassesApplied}
+use Rattle.rates.specs.RateExamples.{CapsAttained, DiscountsBegin, ClassesApplied}
 use Rattle.model.specs.BookEntries.{EntriesFound}
 use Rattle.model.specs.BoundaryExamples.{AtTheBoundaries}
 use Rattle.model.specs.RangeExamples.{RangesKept}
@@ -22,7 +22,6 @@ pub record Established : Type 0 where
   -- demand 1: the first refusal that fits
   pub number-two-first : NumberTwoFirst
   pub at-the-boundaries : AtTheBoundaries
-  pub ranges-kept : RangesKept
   pub start-tests : StartTests
   pub table-of-dates : TableOfDates
   pub day-and-date-inverse : DayAndDateInverse
@@ -30,7 +29,7 @@ pub record Established : Type 0 where
   pub twelve-rates : TwelveRates
   pub baseline-not-given-to-qhs : BaselineNotGivenToQhs
   pub caps-attained : CapsAttained
-  pub prices-attained : PricesAttained
+  pub discounts-begin : DiscountsBegin
   pub classes-applied : ClassesApplied
   pub entries-found : EntriesFound
   -- demand 2: the packed ledger, both ways
@@ -40,6 +39,7 @@ pub record Established : Type 0 where
   pub layout-example : LayoutExample
   pub fresh-ledger : FreshLedger
   pub round-trips : RoundTrips
+  pub ranges-kept : RangesKept
   pub claims-kept : ClaimsKept
   pub packed-histories-hold-their-facts : PackedHistoriesHoldTheirFacts
   -- demand 3: every history balances, and the move from postings

@@ -10,8 +10,7 @@ use lib.ListN.{length, take, drop, length-append, length-drop, take-append-drop}
 use lib.Seq.{length-take-le, take-all, take-at, drop-at, take-add, take-take, drop-drop, getD-drop}
 use Rattle.fields.specs.Field.{value, bitsOf, bits, bytesOfBits, fieldAt, setField, AreBytes}
 use Rattle.fields.specs.Fields.{sum, fields, setFields, fieldBits, Fit}
-use Rattle.fields.proofs.Bits.{value-take-lt, value-bitsOf, bitsOf-value, part-left, drop-right, part-of-part, drop-take-append, value-part}
-pub use Rattle.fields.proofs.Bits.{length-bitsOf}
+use Rattle.fields.proofs.Bits.{value-take-lt, value-bitsOf, bitsOf-value, part-left, drop-right, part-of-part, drop-take-append, value-part, length-bitsOf}
 
 -- ---- bytes and their bits
 

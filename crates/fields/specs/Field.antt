@@ -1,5 +1,6 @@
 -- A packed field. Bytes are read as one row of bits, the most significant bit of each byte first.
 -- The field of w bits from bit `at` on is a part of that row, wherever bytes end, and holds the number that the part writes.
+-- Assumes nothing.
 use Prim.Native.Nat.{ℕ, zero, suc, _+_, _*_, _/_, _%_, _^_, _<_}
 use mathlib.Core.Bool.{Bool, true, false}
 use mathlib.Core.List.{List, [], _∷_, _++_}

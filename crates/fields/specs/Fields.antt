@@ -1,4 +1,4 @@
--- Adjacent packed fields, given by the list of their widths in bits.
+-- Adjacent packed fields, given by the list of their widths in bits. Assumes nothing.
 use Prim.Native.Nat.{ℕ, _+_, _^_, _<_}
 use mathlib.Core.Bool.{Bool}
 use mathlib.Core.List.{List, [], _∷_, _++_}

@@ -7,8 +7,8 @@ use Rattle.records.specs.Slots.{slotOut, arrayOut}
 use Rattle.records.specs.Places.{places}
 use Rattle.model.specs.Contracts.{putContract}
 use Rattle.layout.specs.Layout.{bytesOf}
-use Rattle.layout.specs.LayoutExample.{contract, row, ledger, headerBytes, contractBytes, rowBytes, LayoutExample}
+use Rattle.layout.specs.LayoutExample.{exampleContract, exampleRow, exampleLedger, headerBytes, contractBytes, rowBytes, LayoutExample}
 
 pub layout-example : LayoutExample
-unfolding contract row ledger headerBytes contractBytes rowBytes bytesOf putContract arrayOut places slotOut pack size join bytesOfBits fieldBits value bitsOf
+unfolding exampleContract exampleRow exampleLedger headerBytes contractBytes rowBytes bytesOf putContract arrayOut places slotOut pack size join bytesOfBits fieldBits value bitsOf
 layout-example = refl

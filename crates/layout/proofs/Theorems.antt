@@ -44,7 +44,7 @@ fresh-ledger territory h =
     ∙ ap (λ (zeros : List ℕ). territory * 128 ∷ zeros) (replicate-append-replicate 7 (ledgerLength - 8) 0)
 
 pub round-trips : RoundTrips
-round-trips = record { facts-back = unpacked-packed present; bytes-back = repacked; exactly = well-formed-exactly present }
+round-trips = record { facts-back = unpacked-packed present; bytes-back = repacked; formed-exactly = well-formed-exactly present }
 
 pub packed-answers-from-the-sheet : PackedAnswersFromTheSheet
 packed-answers-from-the-sheet = bytes-answer-from-the-sheet rules (present .rules) (format rules layout) format-laws

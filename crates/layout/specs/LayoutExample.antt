@@ -1,4 +1,4 @@
--- Document 01, "The packed ledger, 18,760 bytes": a ledger with a contract and a row, and its bytes up to that row. Assumes nothing.
+-- Document 01, "The packed ledger, 18,760 bytes": a ledger with a contract and a row, and its bytes to the end of that row. Assumes nothing.
 use mathlib.Core.Path.{_≡_}
 use mathlib.Core.List.{List, [], _∷_, _++_}
 use Prim.Native.Nat.{ℕ}
@@ -13,19 +13,19 @@ use Rattle.model.specs.Ledger.{Ledger}
 use Rattle.layout.specs.Present.{bytes}
 
 -- gas, its price fixed on day 485, entered on day 851, QHS from day 511 on
-unfoldable pub contract : Contract
-contract = record { fuel = Gas; kind = Fixed 485 851; certificate = Qhs 511 }
+unfoldable pub exampleContract : Contract
+exampleContract = record { fuel = Gas; kind = Fixed 485 851; certificate = Qhs 511 }
 
 -- contract 5, days 511 to 515, 100,000,000 kWh, R 40,000, S 999,999, 40,000,000,000,000 ticks
-unfoldable pub row : Row
-row = record {
+unfoldable pub exampleRow : Row
+exampleRow = record {
   bill = record { contract = 5; first = 511; last = 515; kwh = 100000000; reference = 40000; supply = 999999 };
   amount = 40000000000000;
 }
 
 -- Northern Ireland, claims made 1,000, net pence claimed 123,456,789,012
-unfoldable pub ledger : Ledger
-ledger = record { territory = 1; contracts = putContract noContracts 5 contract; rows = row ∷ []; claims = 1000; pence = 123456789012 }
+unfoldable pub exampleLedger : Ledger
+exampleLedger = record { territory = 1; contracts = putContract noContracts 5 exampleContract; rows = exampleRow ∷ []; claims = 1000; pence = 123456789012 }
 
 -- the bytes of the header, of the contract and of the row
 unfoldable pub headerBytes : List ℕ
@@ -39,4 +39,4 @@ rowBytes = 0x8a ∷ 0xff ∷ 0xc0 ∷ 0x77 ∷ 0xd7 ∷ 0x84 ∷ 0x00 ∷ 0x27 �
 
 -- the header in bytes 0 to 7, contract 5 in bytes 33 to 37, the first row in bytes 328 to 345
 abbrev pub LayoutExample : Type 0
-LayoutExample = take 346 (bytes ledger) ≡ headerBytes ++ (replicate 25 0 ++ (contractBytes ++ (replicate 290 0 ++ rowBytes)))
+LayoutExample = take 346 (bytes exampleLedger) ≡ headerBytes ++ (replicate 25 0 ++ (contractBytes ++ (replicate 290 0 ++ rowBytes)))

@@ -30,7 +30,7 @@ FreshLedger = (territory : ℕ) → territory ≤ 1 → bytes (fresh territory) 
 pub record RoundTrips : Type 0 where
   pub facts-back : (l : Ledger) → WellFormed rules l → facts (bytes l) ≡ l
   pub bytes-back : (b : List ℕ) → Formed b → bytes (facts b) ≡ b
-  pub exactly : (b : List ℕ) → Formed b ↔ ((l : Ledger) × WellFormed rules l × (bytes l ≡ b))
+  pub formed-exactly : (b : List ℕ) → Formed b ↔ ((l : Ledger) × WellFormed rules l × (bytes l ≡ b))
 
 -- "claims at most 1,000, and no pence where no claim was made"
 pub record ClaimsKept : Type 0 where

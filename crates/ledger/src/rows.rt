@@ -4,7 +4,6 @@ use layout::ROW_LENGTH;
 use model::Row;
 use rates::Bill;
 ghost use mathlib.Core.Path.{_≡_};
-ghost use mathlib.Core.Bool.{true};
 ghost use Prim.Native.Nat.{_<_};
 ghost use lib.ListN.{length};
 ghost use Rattle.limits.specs.Limits.{rowCount};

@@ -5,4 +5,4 @@ use Rattle.model.specs.RangeExamples.{heldBills, keepsRanges, contractsI
 
 pub ranges-kept : RangesKept
 unfolding heldBills keepsRanges contractsInRange contractsOutOfRange billOk contractRanges badKind badDays badEffective badSpan noPrice
-ranges-kept = record { bills = refl; in-range = refl; out-of-range = refl; index-in-ireland = refl; gas-index = refl }
+ranges-kept = record { bills = refl; in-range = refl; out-of-range = refl; index-in-northern-ireland = refl; gas-index = refl }

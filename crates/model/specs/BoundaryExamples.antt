@@ -41,20 +41,20 @@ sheetWith t bs n = record { territory = t; contracts = putContract (putContract 
 unfoldable pub britain : Sheet
 britain = sheetWith 0 (standing 0 500 510 ∷ standing 0 600 610 ∷ []) 0
 
-unfoldable pub ireland : Sheet
-ireland = sheetWith 1 (standing 0 500 510 ∷ standing 0 600 610 ∷ []) 0
+unfoldable pub northernIreland : Sheet
+northernIreland = sheetWith 1 (standing 0 500 510 ∷ standing 0 600 610 ∷ []) 0
 
--- a Northern Ireland ledger with fixed and index electricity, and their prices: entry 5 of the book, the price-fix day, and entry 1,728
+-- a Northern Ireland ledger with fixed and index electricity; the book has their prices in entry 5, the price-fix day, and in entry 1,728
 unfoldable pub fixedAndIndex : Sheet
 fixedAndIndex = record { territory = 1; contracts = putContract (putContract noContracts 0 (opening 0 0 5 6)) 1 (opening 0 3 0 0); bills = []; claims = 0 }
 
 -- so many rows held; the test reads no more of them
-unfoldable pub standingBills : ℕ → Sheet
-standingBills n = sheetWith 0 (replicate n (standing 1 486 486)) 0
+unfoldable pub sheetOfBills : ℕ → Sheet
+sheetOfBills n = sheetWith 0 (replicate n (standing 1 486 486)) 0
 
 -- so many claims made
-unfoldable pub claiming : ℕ → Sheet
-claiming n = sheetWith 0 [] n
+unfoldable pub sheetOfClaims : ℕ → Sheet
+sheetOfClaims n = sheetWith 0 [] n
 
 -- a price of contract 1 in April 2023: entry 1,716 of the book
 unfoldable pub april : List ℕ
@@ -83,8 +83,8 @@ atNumber6 =
     (Call.Open 2 2 0 0 0 with [] on britain gives 6)
     ∷ (Call.Open 2 0 4 0 0 with [] on britain gives 6)
     ∷ (Call.Open 2 0 3 0 0 with [] on britain gives 6)
-    ∷ (Call.Open 2 1 3 0 0 with [] on ireland gives 6)
-    ∷ (Call.Open 2 0 3 0 0 with [] on ireland gives 0)
+    ∷ (Call.Open 2 1 3 0 0 with [] on northernIreland gives 6)
+    ∷ (Call.Open 2 0 3 0 0 with [] on northernIreland gives 0)
     ∷ (Call.Open 2 1 0 0 0 with [] on britain gives 0)
     ∷ (Call.Open 2 0 1 0 0 with [] on britain gives 0)
     ∷ (Call.Open 2 1 2 0 0 with [] on britain gives 0)
@@ -159,11 +159,11 @@ atNumber11 =
 
 -- 12: 1,024 rows are held already
 unfoldable pub atNumber12 : List Boundary
-atNumber12 = (Call.Bill (requestOf 0 486 499 1 1 1) with zeroBook on standingBills 1024 gives 12) ∷ (Call.Bill (requestOf 0 486 499 1 1 1) with zeroBook on standingBills 1023 gives 0) ∷ []
+atNumber12 = (Call.Bill (requestOf 0 486 499 1 1 1) with zeroBook on sheetOfBills 1024 gives 12) ∷ (Call.Bill (requestOf 0 486 499 1 1 1) with zeroBook on sheetOfBills 1023 gives 0) ∷ []
 
 -- 13: 1,000 claims were made already
 unfoldable pub atNumber13 : List Boundary
-atNumber13 = (Call.Claim with [] on claiming 1000 gives 13) ∷ (Call.Claim with [] on claiming 999 gives 0) ∷ []
+atNumber13 = (Call.Claim with [] on sheetOfClaims 1000 gives 13) ∷ (Call.Claim with [] on sheetOfClaims 999 gives 0) ∷ []
 
 -- calls that two tests or more turn down: the number is the first in checking order
 unfoldable pub inCheckingOrder : List Boundary
@@ -177,8 +177,8 @@ inCheckingOrder =
     ∷ (Call.Bill (requestOf 0 485 499 100000001 1 1) with zeroBook on britain gives 7)
     ∷ (Call.Rebill (requestOf 0 501 501 100000001 1 1) with zeroBook on britain gives 8)
     ∷ (Call.Rebill (requestOf 0 501 501 1 1 1) with zeroBook on britain gives 9)
-    ∷ (Call.Bill (requestOf 1 486 486 1 1 0) with zeroBook on standingBills 1 gives 10)
-    ∷ (Call.Bill (requestOf 1 487 487 1 1 0) with zeroBook on standingBills 1024 gives 11)
+    ∷ (Call.Bill (requestOf 1 486 486 1 1 0) with zeroBook on sheetOfBills 1 gives 10)
+    ∷ (Call.Bill (requestOf 1 487 487 1 1 0) with zeroBook on sheetOfBills 1024 gives 11)
     ∷ []
 
 -- the number that turns the call down is the one given

@@ -69,5 +69,5 @@ pub record RangesKept : Type 0 where
   pub bills : map keepsRanges heldBills ≡ map (λ e. e .kept) heldBills
   pub in-range : map (contractRanges 0) contractsInRange ≡ map (λ _. true) contractsInRange
   pub out-of-range : map (contractRanges 0) contractsOutOfRange ≡ map (λ _. false) contractsOutOfRange
-  pub index-in-ireland : contractRanges 1 (0 ∷ 3 ∷ 0 ∷ 0 ∷ 0 ∷ 0 ∷ []) ≡ true
+  pub index-in-northern-ireland : contractRanges 1 (0 ∷ 3 ∷ 0 ∷ 0 ∷ 0 ∷ 0 ∷ []) ≡ true
   pub gas-index : contractRanges 1 (1 ∷ 3 ∷ 0 ∷ 0 ∷ 0 ∷ 0 ∷ []) ≡ false

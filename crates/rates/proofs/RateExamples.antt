@@ -15,7 +15,7 @@ use Rattle.rates.specs.declared.Class.the-variants.{QhsOld, QhsNew}
 use Rattle.rates.specs.declared.Prices.the-variants.{Unlimited}
 use Rattle.rates.specs.Rates.{leastTerm, part, partOf, classRate, classCap, enteredEarly, qhsClass, classOf, rate, cap}
 use Rattle.rates.specs.TwelveRates.{example, contractIn, billIn, rated}
-use Rattle.rates.specs.RateExamples.{capped, caps, discountsBegin, classes, CapsAttained, PricesAttained, ClassesApplied}
+use Rattle.rates.specs.RateExamples.{capIn, caps, firstDiscounts, classes, CapsAttained, DiscountsBegin, ClassesApplied}
 use Rattle.rates.proofs.Parts.{part-unlimited}
 
 -- where R is S, a part without a maximum is max(S − minimum, 0)
@@ -33,12 +33,12 @@ qhs fuel kind first S = by-class fuel (leb newMinimumDay first && not (enteredEa
     by-class Gas false = whole-part _ S
 
 pub caps-attained : CapsAttained
-unfolding caps capped example contractIn billIn rated rate cap classOf qhsClass classRate classCap partOf part leastTerm
+unfolding caps capIn example contractIn billIn rated rate cap classOf qhsClass classRate classCap partOf part leastTerm
 caps-attained = record { caps-given = refl; rates-as-high = refl; qhs = qhs }
 
-pub prices-attained : PricesAttained
-unfolding discountsBegin example contractIn billIn rated rate classOf qhsClass classRate partOf part leastTerm
-prices-attained = refl
+pub discounts-begin : DiscountsBegin
+unfolding firstDiscounts example contractIn billIn rated rate classOf qhsClass classRate partOf part leastTerm
+discounts-begin = refl
 
 pub classes-applied : ClassesApplied
 unfolding classes example contractIn billIn rated rate classOf qhsClass classRate partOf part leastTerm

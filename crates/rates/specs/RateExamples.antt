@@ -13,14 +13,14 @@ use Rattle.rates.specs.Rates.{classRate, qhsClass, classCap, cap}
 use Rattle.rates.specs.TwelveRates.{Example, example, contractIn, billIn, rated}
 
 -- the examples have the rates given
-abbrev pub AsGiven : List Example → Type 0
-AsGiven es = map rated es ≡ map (λ e. e .ticks) es
+abbrev pub RatesGiven : List Example → Type 0
+RatesGiven es = map rated es ≡ map (λ e. e .ticks) es
 
 -- ---- caps: each is reached by a bill, so that none can be raised or lowered
 
 -- the cap of an example's bill
-unfoldable pub capped : Example → ℕ
-capped e = cap (contractIn e) (billIn e)
+unfoldable pub capIn : Example → ℕ
+capIn e = cap (contractIn e) (billIn e)
 
 -- "baseline 19,610 electricity and 6,970 gas; ETII 68,183 and 30,091; QHS 10 times max(S − QHS minimum, 0)"
 unfoldable pub caps : List Example
@@ -37,12 +37,12 @@ caps =
 
 pub record CapsAttained : Type 0 where
   -- each cap of the table is the one given, and the bill's rate is as high
-  pub caps-given : map capped caps ≡ map (λ e. e .ticks) caps
-  pub rates-as-high : AsGiven caps
+  pub caps-given : map capIn caps ≡ map (λ e. e .ticks) caps
+  pub rates-as-high : RatesGiven caps
   -- a cap of QHS is reached at every S, where R is S
   pub qhs : (fuel : Fuel) (kind : Kind) (first S : ℕ) → classRate fuel (qhsClass kind first) S S ≡ classCap fuel (qhsClass kind first) S
 
--- ---- support prices and minimums: no discount at the price, and one of a mil where R, or S, is a mil above it
+-- ---- support prices and minimums: no discount at the price, and the first ticks where R, or S, is a mil above it
 
 -- of a fuel, with a certificate, at a price that is both; a mil is 10 ticks, of the ETII part 7
 abbrev pub fromPrice : Fuel → Certificate → (price ticks : ℕ) → List Example
@@ -54,13 +54,13 @@ fromPrice fuel certificate price ticks =
     ∷ []
 
 -- baseline 30,200 and 10,700; ETII 18,500 and 9,900
-unfoldable pub discountsBegin : List Example
-discountsBegin =
+unfoldable pub firstDiscounts : List Example
+firstDiscounts =
     fromPrice Electricity None 30200 10 ++ (fromPrice Gas None 10700 10
     ++ (fromPrice Electricity (Etii 486) 18500 7 ++ fromPrice Gas (Etii 486) 9900 7))
 
-abbrev pub PricesAttained : Type 0
-PricesAttained = AsGiven discountsBegin
+abbrev pub DiscountsBegin : Type 0
+DiscountsBegin = RatesGiven firstDiscounts
 
 -- ---- classes
 
@@ -74,6 +74,9 @@ classes =
     ∷ example Electricity Flexible (Qhs 512) 512 40000 50000 160000
     ∷ example Electricity Flexible (Qhs 511) 791 1000 50000 10000
     ∷ example Electricity Flexible (Qhs 511) 791 0 50000 0
+    ∷ example Electricity (Fixed 0 791) (Qhs 511) 792 40000 50000 160000
+    ∷ example Gas (Fixed 0 791) (Qhs 511) 792 40000 20000 121700
+    ∷ example Gas (Fixed 0 792) (Qhs 511) 792 40000 20000 135000
     ∷ example Electricity (Fixed 0 792) (Qhs 511) 791 40000 50000 160000
     ∷ example Electricity (Fixed 0 792) (Qhs 511) 792 40000 50000 217600
     ∷ example Electricity Variable (Qhs 511) 792 40000 50000 217600
@@ -81,4 +84,4 @@ classes =
     ∷ []
 
 abbrev pub ClassesApplied : Type 0
-ClassesApplied = AsGiven classes
+ClassesApplied = RatesGiven classes

@@ -1,4 +1,5 @@
 -- What the functions of this crate leave of bytes: a record put in, taken out, written over, and a part of the bytes edited.
+-- Assumes nothing.
 use mathlib.Core.Bool.{Bool}
 use mathlib.Core.List.{List, _++_}
 use Prim.Native.Nat.{ℕ, _+_, _-_}

@@ -1,4 +1,4 @@
--- Elements by their number, as a list and as a function.
+-- Elements by their number, as a list and as a function. Assumes nothing.
 use mathlib.Core.List.{List, [], _∷_}
 use mathlib.Core.Option.{Option, none}
 use Prim.Native.Nat.{ℕ, zero, suc}

@@ -1,4 +1,4 @@
--- One slot's bytes: whether it is taken, the record that it holds, and the bytes that hold a record.
+-- One slot's bytes: whether it is taken, the record that it holds, and the bytes that hold a record. Assumes nothing.
 use mathlib.Core.Path.{_≡_}
 use mathlib.Core.Bool.{Bool, not}
 use mathlib.Core.List.{List}

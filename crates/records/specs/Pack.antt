@@ -1,4 +1,4 @@
--- A record of whole bytes, given by the list of its fields' widths in bits.
+-- A record of whole bytes, given by the list of its fields' widths in bits. Assumes nothing.
 use mathlib.Core.Path.{_≡_}
 use mathlib.Core.List.{List, [], _∷_, _++_}
 use Prim.Native.Nat.{ℕ, zero, suc, _*_, _/_}

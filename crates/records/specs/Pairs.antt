@@ -1,4 +1,4 @@
--- A test of the pairs of a list, the earlier element first.
+-- A test of the pairs of a list, the earlier element first. Assumes nothing.
 use mathlib.Core.Bool.{Bool, true, _&&_}
 use mathlib.Core.List.{List, [], _∷_, map}
 use Rattle.basics.specs.Tests.{every}

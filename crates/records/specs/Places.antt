@@ -1,4 +1,4 @@
--- Records that come first in their array: the slots from some place on are free.
+-- Records that come first in their array: the slots from some place on are free. Assumes nothing.
 use mathlib.Core.Bool.{Bool, true, false}
 use mathlib.Core.List.{List, [], _∷_, _++_, map}
 use mathlib.Core.Option.{Option, none, some}

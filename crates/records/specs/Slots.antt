@@ -1,5 +1,5 @@
 -- An array of equal records, each of which may be absent. A slot is one bit that says whether the record is there, the record's
--- fields, and padding that stays zero; a slot without a record is all zeros.
+-- fields, and padding that stays zero; a slot without a record is all zeros. Assumes nothing.
 use mathlib.Core.Path.{_≡_}
 use mathlib.Core.Bool.{Bool, true, cond, _&&_}
 use mathlib.Core.List.{List, _∷_, _++_, map}

@@ -11,7 +11,7 @@ unfolding inputCommands priceReply
 program-limits = record {
   whole-input = λ input h. rw (le-ltb mostInput (length input) h);
   longer-input = λ input h. rw (lt-ltb mostInput (length input) h);
-  price-set = refl;
+  price-accepted = refl;
   index-above = refl;
   value-above = refl;
 }

@@ -1,4 +1,4 @@
--- Document 01, "The program and one run": the line printed for each kind of answer, and the lines of texts. Assumes nothing.
+-- Document 01, "The program and one run": the line printed for each kind of answer, and how a text is cut into lines. Assumes nothing.
 use mathlib.Core.Path.{_≡_}
 use mathlib.Core.List.{List, [], _∷_, map}
 use Prim.Native.String.{String}

@@ -13,6 +13,6 @@ pub record ProgramLimits : Type 0 where
   pub whole-input : (input : List ℕ) → length input ≤ 65536 → inputCommands input ≡ commandsOf input
   pub longer-input : (input : List ℕ) → 65536 < length input → inputCommands input ≡ Command.Unreadable ∷ []
   -- 8: "a book entry's index is above 1,739 or its value above 999,999"
-  pub price-set : priceReply 1739 999999 ≡ replyWithoutNumbers 0
+  pub price-accepted : priceReply 1739 999999 ≡ replyWithoutNumbers 0
   pub index-above : priceReply 1740 999999 ≡ replyWithoutNumbers 8
   pub value-above : priceReply 1739 1000000 ≡ replyWithoutNumbers 8

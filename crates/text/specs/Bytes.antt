@@ -1,4 +1,4 @@
--- Texts as lists of bytes.
+-- Texts as lists of bytes. Assumes nothing.
 use mathlib.Core.List.{List, [], _∷_}
 use Prim.Native.Nat.{ℕ}
 use Prim.Native.Char.{Char, code}

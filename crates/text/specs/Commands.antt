@@ -1,4 +1,4 @@
--- A line as a command: a call's name and its numbers, single spaces between.
+-- A line as a command: a call's name and its numbers, single spaces between. Assumes nothing.
 use mathlib.Core.Bool.{cond}
 use mathlib.Core.List.{List, [], _∷_}
 use mathlib.Core.Option.{Option, none, some}

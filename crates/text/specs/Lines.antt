@@ -1,4 +1,4 @@
--- The lines that are printed, how much room each takes at most, and what it is to write a text into a buffer.
+-- The lines that are printed, how much room each takes at most, and what it is to write a text into a buffer. Assumes nothing.
 use mathlib.Core.Path.{_≡_}
 use mathlib.Core.Bool.{cond}
 use mathlib.Core.List.{List, [], _∷_, _++_}

@@ -1,4 +1,4 @@
--- Numbers in decimal: how they are written, and how they are read.
+-- Numbers in decimal: how they are written, and how they are read. Assumes nothing.
 use mathlib.Core.Path.{_≡_}
 use mathlib.Core.Bool.{Bool, true, false, cond}
 use mathlib.Core.List.{List, [], _∷_, _++_}

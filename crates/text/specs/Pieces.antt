@@ -1,4 +1,4 @@
--- A text in pieces: a session in lines, a line in words.
+-- A text in pieces: a session in lines, a line in words. Assumes nothing.
 use mathlib.Core.Path.{_≡_}
 use mathlib.Core.Bool.{Bool, true, false, cond}
 use mathlib.Core.List.{List, [], _∷_}
