@@ -46,6 +46,14 @@ module _ {A : Type 0} where
   total-mono f g [] a = zero-le
   total-mono f g (x ∷ xs) a = let h : f x ≤ g x = a .0 in let t : total f xs ≤ total g xs = total-mono f g xs (a .1) in omega arith
 
+  pub total-le : (f g : A → ℕ) → ((x : A) → f x ≤ g x) → (xs : List A) → total f xs ≤ total g xs
+  total-le f g h [] = zero-le
+  total-le f g h (x ∷ xs) = omega (arith, h x, total-le f g h xs)
+
+  pub total-times : (w : A → ℕ) (n : ℕ) (xs : List A) → total (λ x. w x * n) xs ≡ total w xs * n
+  total-times w n [] = omega arith
+  total-times w n (x ∷ xs) = omega (arith, total-times w n xs)
+
   -- what passes the test and what does not
   pub total-split : (p : A → Bool) (w : A → ℕ) (xs : List A) → total (λ x. cond (p x) (w x) 0) xs + total (λ x. cond (p x) 0 (w x)) xs ≡ total w xs
   total-split p w [] = refl

@@ -1,5 +1,5 @@
 -- A bill's row added, put in place of another, or removed: what is needed for it, answered and left. Assumes nothing.
-use mathlib.Core.Path.{_≡_, sym, ap, ap₂, _∙_}
+use mathlib.Core.Path.{_≡_, sym, ap, ap₂, _∙_, subst}
 use mathlib.Core.List.{List}
 use Prim.Native.Nat.{ℕ, _+_, _*_, _^_, _≤_, _<_}
 use native.Mathlib.Omega.{arith}
@@ -12,8 +12,7 @@ use Rattle.records.specs.OneSlot.{recordBytes}
 use Rattle.records.proofs.Scan.{recordOf}
 use Rattle.rates.specs.declared.Contract.{Contract}
 use Rattle.rates.specs.declared.Bill.{Bill}
-use Rattle.rates.specs.declared.Rated.{Rated}
-use Rattle.rates.specs.Rates.{Rateable, ratedOf}
+use Rattle.rates.specs.Amounts.{rate, amount, Rateable}
 use Rattle.rates.proofs.WithinCaps.{amount-bits}
 use Rattle.model.specs.declared.Row.{Row}
 use Rattle.model.specs.declared.Answer.the-variants.{Billed, Rebilled, Cancelled}
@@ -36,48 +35,47 @@ use Rattle.ledger.specs.Rows.{rowPasses}
 use Rattle.ledger.proofs.RowNumbers.{row-amount-low}
 use Rattle.bill_calls.specs.Rows.{RowHeld, NewRow, RowAgain, Changed, billed, rowAdded, rebilled, rowReplaced, cancelled, rowRemoved}
 
--- the row that is made of a bill and its rate and amount
-abbrev made : Bill → Rated → Row
-made x rated = record { bill = x; amount = rated .amount }
+-- the row that is made of a bill and its amount
+abbrev made : Bill → ℕ → Row
+made x a = record { bill = x; amount = a }
 
 -- ---- a row that keeps the ranges
 
 module _ (cs : Contracts) (k : Contract) (x : Bill) (ok : RowOk rules cs (priced rules k x)) where
   pub row-rateable : Rateable x
   unfolding priced
-  row-rateable = let t = bill-ranges _ x (ok .ranges) in record { kwh = t .kwh; supply = t .supply }
+  row-rateable = bill-ranges _ x (ok .ranges) .rateable
 
-  module _ (rated : Rated) (e : rated ≡ ratedOf k x) where
-    is-priced : made x rated ≡ priced rules k x
+  module _ (a : ℕ) (e : a ≡ amount k x) where
+    is-priced : made x a ≡ priced rules k x
     unfolding priced
     is-priced = ap (made x) e
 
-    made-fits : Fit (rowRecord .widths) (rowRecord .values (made x rated))
-    unfolding priced
-    made-fits = rw is-priced (row-fits cs (priced rules k x) ok)
+    made-fits : Fit (rowRecord .widths) (rowRecord .values (made x a))
+    made-fits = subst (λ (y : Row). Fit (rowRecord .widths) (rowRecord .values y)) (sym is-priced) (row-fits cs (priced rules k x) ok)
 
-    pub new-amount-low : rated .amount < 2 ^ 62
-    new-amount-low = rw e (let bits = amount-bits k x (row-rateable .kwh) (row-rateable .supply) in omega arith)
+    pub new-amount-low : a < 2 ^ 62
+    new-amount-low = omega (arith, e, amount-bits k x row-rateable)
 
 searched-length : (b : List ℕ) (rows : ℕ) → Searched b rows → length b ≡ ledgerLength
 searched-length b rows s = formed-length b (s .formed)
 
 -- ---- a row that is added
 
-module _ (b : List ℕ) (rows place : ℕ) (k : Contract) (x : Bill) (new : NewRow b rows place k x) (rated : Rated) (e : rated ≡ ratedOf k x) where
+module _ (b : List ℕ) (rows place : ℕ) (k : Contract) (x : Bill) (new : NewRow b rows place k x) (a : ℕ) (e : a ≡ amount k x) where
   place-inside : place ≤ rows
   place-inside = omega (arith, new .at, new .searched .count, place-le (rowPasses (After (x .contract) (x .first))) (facts b .rows))
 
-  pub insertable : Insertable b rows place (made x rated)
-  insertable = record { long = searched-length b rows (new .searched); inside = place-inside; room = new .room; fits = made-fits (contracts b) k x (new .row) rated e }
+  pub insertable : Insertable b rows place (made x a)
+  insertable = record { long = searched-length b rows (new .searched); inside = place-inside; room = new .room; fits = made-fits (contracts b) k x (new .row) a e }
 
-  pub row-added : (after : List ℕ) → after ≡ onPart firstRow (rowStart (rows + 1)) (insertAt (place * rowLength) (recordBytes rowRecord (made x rated))) b
-      → Changed (Billed (x .reference) (rated .rate) (rated .amount)) after (billed k x) (rowAdded (facts b) k x)
+  pub row-added : (r : ℕ) → r ≡ rate k x → (after : List ℕ) → after ≡ onPart firstRow (rowStart (rows + 1)) (insertAt (place * rowLength) (recordBytes rowRecord (made x a))) b
+      → Changed (Billed (x .reference) r a) after (billed k x) (rowAdded (facts b) k x)
   unfolding priced sortsAfter
-  row-added after put = record {
-    answered = ap (λ (y : Rated). Billed (x .reference) (y .rate) (y .amount)) e;
+  row-added r at-rate after put = record {
+    answered = ap₂ (Billed (x .reference)) at-rate e;
     left = inserted-row (facts b) b after (sym (repacked b (new .searched .formed))) rows place (priced rules k x) (sym (new .searched .count)) place-inside (new .room)
-        (put ∙ ap (λ (y : Row). onPart firstRow (rowStart (rows + 1)) (insertAt (place * rowLength) (recordBytes rowRecord y)) b) (is-priced (contracts b) k x (new .row) rated e))
+        (put ∙ ap (λ (y : Row). onPart firstRow (rowStart (rows + 1)) (insertAt (place * rowLength) (recordBytes rowRecord y)) b) (is-priced (contracts b) k x (new .row) a e))
         ∙ ap (λ (xs : List Row). bytes (withRows (facts b) xs)) (rw (new .at) (sym (insert-at (priced rules k x) (facts b .rows))));
   }
 
@@ -113,18 +111,18 @@ module _ (b : List ℕ) (rows place c first : ℕ) (h : RowHeld b rows place c f
 
 -- ---- a row in place of another
 
-module _ (b : List ℕ) (rows place : ℕ) (k : Contract) (x : Bill) (again : RowAgain b rows place k x) (rated : Rated) (e : rated ≡ ratedOf k x) where
-  pub replaceable : Replaceable b place (made x rated)
-  replaceable = let n = held-needs b rows place _ _ (again .old) in record { long = n .0; inside = n .1; fits = made-fits (contracts b) k x (again .row) rated e }
+module _ (b : List ℕ) (rows place : ℕ) (k : Contract) (x : Bill) (again : RowAgain b rows place k x) (a : ℕ) (e : a ≡ amount k x) where
+  pub replaceable : Replaceable b place (made x a)
+  replaceable = let n = held-needs b rows place _ _ (again .old) in record { long = n .0; inside = n .1; fits = made-fits (contracts b) k x (again .row) a e }
 
-  pub row-replaced : (old : Row) → old ≡ rowAt b place → (after : List ℕ) (z : ℤ) → after ≡ replaceAt (rowStart place) (recordBytes rowRecord (made x rated)) b → z ≡ subℕ (rated .amount) (old .amount)
-      → Changed (Rebilled (x .reference) (rated .rate) z) after (rebilled (facts b) k x) (rowReplaced (facts b) k x)
-  row-replaced old read after z put change =
+  pub row-replaced : (r : ℕ) → r ≡ rate k x → (old : Row) → old ≡ rowAt b place → (after : List ℕ) (z : ℤ) → after ≡ replaceAt (rowStart place) (recordBytes rowRecord (made x a)) b → z ≡ subℕ a (old .amount)
+      → Changed (Rebilled (x .reference) r z) after (rebilled (facts b) k x) (rowReplaced (facts b) k x)
+  row-replaced r at-rate old read after z put change =
       let was = old-amount b rows place _ _ (again .old) old read in
       let low = inside b rows place _ _ (again .old) in
       record {
-        answered = ap₂ (λ (y : Rated) (n : ℤ). Rebilled (x .reference) (y .rate) n) e (change ∙ ap₂ subℕ (ap (λ (y : Rated). y .amount) e) was);
+        answered = ap₂ (Rebilled (x .reference)) at-rate (change ∙ ap₂ subℕ e was);
         left = replaced-row (facts b) b after (sym (repacked b (again .old .searched .formed))) place (priced rules k x) low (rows-most present b (again .old .searched .formed))
-            (put ∙ ap (λ (y : Row). replaceAt (rowStart place) (recordBytes rowRecord y) b) (is-priced (contracts b) k x (again .row) rated e))
+            (put ∙ ap (λ (y : Row). replaceAt (rowStart place) (recordBytes rowRecord y) b) (is-priced (contracts b) k x (again .row) a e))
             ∙ ap (λ (xs : List Row). bytes (withRows (facts b) xs)) (rw (again .old .at) (sym (replace-at (named (x .contract) (x .first)) (priced rules k x) (facts b .rows))));
       }

@@ -4,7 +4,8 @@ use model::Answer;
 use model::Row;
 use rates::Bill;
 use rates::Contract;
-use rates::rate_and_amount;
+use rates::amounts::amount;
+use rates::amounts::rate;
 use signed::difference;
 ghost use Rattle.layout.specs.Present.{facts};
 ghost use Rattle.bill_calls.specs.Rows.{NewRow, RowAgain, RowHeld, Changed, billed, rowAdded, rebilled, rowReplaced, cancelled, rowRemoved};
@@ -20,15 +21,14 @@ pub fn add_row(
     requires { ⌜ NewRow (now ledger) rows place contract bill ⌝ }
     ensures { λ r. ⌜ Changed r (now (ledger .exit)) (billed contract bill) (rowAdded (facts (now (ledger .entry))) contract bill) ⌝ }
 {
-    let rated = rate_and_amount(contract, bill);
     let row = Row {
         bill,
-        amount: rated.amount,
+        amount: amount(contract, bill),
     };
     edits::insert_row(ledger, rows, place, row);
     Answer::Billed {
         reference: bill.reference,
-        rate: rated.rate,
+        rate: rate(contract, bill),
         amount: row.amount,
     }
 }
@@ -44,16 +44,15 @@ pub fn replace_row(
     requires { ⌜ RowAgain (now ledger) rows place contract bill ⌝ }
     ensures { λ r. ⌜ Changed r (now (ledger .exit)) (rebilled (facts (now (ledger .entry))) contract bill) (rowReplaced (facts (now (ledger .entry))) contract bill) ⌝ }
 {
-    let rated = rate_and_amount(contract, bill);
     let row = Row {
         bill,
-        amount: rated.amount,
+        amount: amount(contract, bill),
     };
     let old = row_at(ledger, place);
     edits::replace_row(ledger, place, row);
     Answer::Rebilled {
         reference: bill.reference,
-        rate: rated.rate,
+        rate: rate(contract, bill),
         change: difference(row.amount, old.amount),
     }
 }

@@ -11,6 +11,7 @@ use rules::book::bad_book;
 use rules::book::bill_under;
 use rules::book::no_price;
 use rules::ranges::bad_amounts;
+use rules::ranges::bad_shares;
 use rules::ranges::bad_span;
 ghost use mathlib.Core.Path.{_≡_};
 ghost use lib.Dec.{ltb};
@@ -31,7 +32,7 @@ pub enum Placed {
     At(usize),
 }
 
-// Refusals 3 to 8, or the bill, with R from the book.
+// Refusals 3 to 8 and 14, or the bill, with R from the book.
 pub fn requested_bill(b: &[u8], book: &[u32], request: Request) -> Requested
     requires { ⌜ Formed (now b) ⌝ }
     ensures { λ r. ⌜ r ≡ requestedOf (viewOf (now (b .entry))) request (now (book .entry)) ⌝ }
@@ -49,6 +50,9 @@ pub fn requested_bill(b: &[u8], book: &[u32], request: Request) -> Requested
     let contract = contract_at(b, request.contract as usize);
     if bad_amounts(contract, request) {
         return Requested::Refused(8);
+    }
+    if bad_shares(request.kwh, request.etii, request.qhs) {
+        return Requested::Refused(14);
     }
     let bill = bill_under(contract, request, book);
     Requested::Bill { contract, bill }

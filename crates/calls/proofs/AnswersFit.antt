@@ -35,9 +35,8 @@ module _ (l : Ledger) (f : WellFormed rules l) where
   taken-fits q book t =
       let k = contractAt (l .contracts) (q .contract) in
       let b = requestedBill (l .contracts) q book in
-      let tests = bill-ranges k b (t .ranges (f .contracts (q .contract) (t .isOpened))) in
-      let supply = tests .supply in
-      (omega (arith, rate-low k b supply), omega (arith, amount-low k b (tests .kwh) supply))
+      let rateable = bill-ranges k b (t .ranges (f .contracts (q .contract) (t .isOpened))) .rateable in
+      (omega (arith, rate-low k b (rateable .supply)), omega (arith, amount-low k b rateable))
 
   accepted-fits : (c : CallWithBook) → refusal rules (view l) c ≡ 0 → AnswerFits (accept rules l c .answers)
   unfolding accept

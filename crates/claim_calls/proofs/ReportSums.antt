@@ -23,7 +23,7 @@ use Rattle.layout.proofs.Present.{present, facts-kept}
 use Rattle.ledger.proofs.EachRow.{row-there, row-read, SummedTo, summed-none, summed-next, summed-most, summed-all}
 
 pub kwh-low : (l : Ledger) → WellFormed rules l → (p : Row → Bool) → total (λ x. cond (p x) (x .bill .kwh) 0) (l .rows) ≤ rowCount * mostKwhStored
-kwh-low l f p = passing-most f p (λ x. x .bill .kwh) mostKwhStored (λ x o. bill-ranges _ (x .bill) (o .ranges) .kwh)
+kwh-low l f p = passing-most f p (λ x. x .bill .kwh) mostKwhStored (λ x o. bill-ranges _ (x .bill) (o .ranges) .rateable .kwh)
 
 -- w of a row of contract c, and 0 of any other row
 abbrev forContract : ℕ → (Row → ℕ) → Row → ℕ

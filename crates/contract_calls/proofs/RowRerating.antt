@@ -10,7 +10,7 @@ use Rattle.records.specs.Edits.{replaceAt}
 use Rattle.records.specs.OneSlot.{recordBytes}
 use Rattle.records.proofs.Replaced.{replaced-same}
 use Rattle.rates.specs.declared.Contract.{Contract}
-use Rattle.rates.specs.Rates.{Rateable, amount}
+use Rattle.rates.specs.Amounts.{amount, Rateable}
 use Rattle.rates.proofs.WithinCaps.{amount-bits}
 use Rattle.model.specs.declared.Row.{Row}
 use Rattle.model.specs.Ledger.{withAmount, priced, rerated}
@@ -47,7 +47,7 @@ module _ (b : List ℕ) (i : ℕ) (slot : RowInSlot b i) (x : Row) (read : x ≡
   bill-rateable = rw read (slot .rateable)
 
   pub new-amount-low : (terms : Contract) (a : ℕ) → a ≡ amount terms (x .bill) → a < 2 ^ 50
-  new-amount-low terms a e = omega (arith, amount-bits terms (x .bill) (bill-rateable .kwh) (bill-rateable .supply))
+  new-amount-low terms a e = omega (arith, amount-bits terms (x .bill) bill-rateable)
 
   module _ (contract : ℕ) (terms : Contract) where
     pub row-kept : (x .bill .contract ≡ contract → ⊥) → RowRerated contract terms b i (record { due = x .amount; changed = 0 }) b

@@ -16,7 +16,7 @@ use Rattle.records.specs.Edits.{replaceAt}
 use Rattle.records.specs.OneSlot.{recordBytes, IsPacked}
 use Rattle.records.proofs.Replaced.{replaced-rest, replaced-length}
 use Rattle.rates.specs.declared.Contract.{Contract}
-use Rattle.rates.specs.Rates.{Rateable}
+use Rattle.rates.specs.Amounts.{Rateable}
 use Rattle.rates.proofs.WithinCaps.{highestAmount, amount-low}
 use Rattle.model.specs.declared.Row.{Row}
 use Rattle.model.specs.Contracts.{Contracts}
@@ -39,9 +39,8 @@ use Rattle.contract_calls.proofs.RowRerating.{other-row, own-row}
 -- a row's amount under any terms is low enough for its sum
 new-amount-most : (contract : ℕ) (terms : Contract) (cs : Contracts) (x : Row) → RowOk rules cs x → newAmount contract terms x ≤ highestAmount
 new-amount-most contract terms cs x o =
-    let r = bill-ranges _ (x .bill) (o .ranges) in
     either (eqb (x .bill .contract) contract)
-    (λ e. omega (arith, ap (λ (y : Row). y .amount) (own-row contract terms x (eq-yes _ _ e)), amount-low terms (x .bill) (r .kwh) (r .supply)))
+    (λ e. omega (arith, ap (λ (y : Row). y .amount) (own-row contract terms x (eq-yes _ _ e)), amount-low terms (x .bill) (bill-ranges _ (x .bill) (o .ranges) .rateable)))
     (λ e. omega (arith, ap (λ (y : Row). y .amount) (other-row contract terms x (eq-no _ _ e)), bounds.amount-low (present .rules) o))
 
 pub new-sum-most : (b : List ℕ) (rows contract : ℕ) (terms : Contract) → Searched b rows → total (newAmount contract terms) (facts b .rows) ≤ rowCount * highestAmount
@@ -51,8 +50,7 @@ new-sum-most b rows contract terms s = bounds.sum-most (facts-kept b (s .formed)
 held-rateable : (b : List ℕ) (rows i : ℕ) → Searched b rows → i < rows → Rateable (rowAt b i .bill)
 held-rateable b rows i s h =
     let o : RowOk rules (facts b .contracts) (rowAt b i) = rw (row-read b rows i s h (rowAt b i) refl) (all-at (RowOk rules (facts b .contracts)) (facts b .rows) (rowAt b i) (facts-kept b (s .formed) .rows) i (row-there b rows i s h)) in
-    let r = bill-ranges _ (rowAt b i .bill) (o .ranges) in
-    record { kwh = r .kwh; supply = r .supply }
+    bill-ranges _ (rowAt b i .bill) (o .ranges) .rateable
 
 -- after i of the rows of the ledger b₀: the bytes, the sum of the new amounts and how many changed
 pub record Passed (b₀ : List ℕ) (contract : ℕ) (terms : Contract) (i : ℕ) (b : List ℕ) (due changed : ℕ) : Type 0 where

@@ -13,7 +13,7 @@ use Rattle.model.specs.Rules.{unlessRefused}
 use Rattle.layout.specs.Offsets.{ledgerLength}
 use Rattle.layout.specs.Present.{bytes}
 
--- the number that turns a start down: 2, the buffer isn't 18,760 bytes; 6, the territory code has no meaning
+-- the number that turns a start down: 2, the buffer isn't of a ledger's length; 6, the territory code has no meaning
 unfoldable pub startRefusal : List ℕ → (territory : ℕ) → ℕ
 startRefusal b territory = firstOf ((2 if not (eqb (length b) ledgerLength)) ∷ (6 if ltb 1 territory) ∷ [])
 

@@ -58,7 +58,7 @@ pub extern "C" fn ebds_open(
     make(ledger, &NO_BOOK, call, answer)
 }
 
-// bill (contract, first, last, kWh, S, WAP).
+// bill (contract, first, last, kWh, S, WAP, ETII share, QHS share).
 #[no_mangle]
 pub extern "C" fn ebds_bill(
     ledger: &mut [u8],
@@ -69,9 +69,11 @@ pub extern "C" fn ebds_bill(
     kwh: u32,
     supply: u32,
     wap: u32,
+    etii: u32,
+    qhs: u32,
     answer: &mut [i64; ANSWER_NUMBERS],
 ) -> u32
-    ensures { λ r. ⌜ Gives (now (ledger .entry)) (Call.Bill (requestOf contract first last kwh supply wap) with (now (book .entry))) r (now (answer .exit)) (now (ledger .exit)) ⌝ }
+    ensures { λ r. ⌜ Gives (now (ledger .entry)) (Call.Bill (requestOf contract first last kwh supply wap etii qhs) with (now (book .entry))) r (now (answer .exit)) (now (ledger .exit)) ⌝ }
 {
     let call = Call::Bill(Request {
         contract,
@@ -80,6 +82,8 @@ pub extern "C" fn ebds_bill(
         kwh,
         supply,
         wap,
+        etii,
+        qhs,
     });
     make(ledger, book, call, answer)
 }
@@ -95,9 +99,11 @@ pub extern "C" fn ebds_rebill(
     kwh: u32,
     supply: u32,
     wap: u32,
+    etii: u32,
+    qhs: u32,
     answer: &mut [i64; ANSWER_NUMBERS],
 ) -> u32
-    ensures { λ r. ⌜ Gives (now (ledger .entry)) (Call.Rebill (requestOf contract first last kwh supply wap) with (now (book .entry))) r (now (answer .exit)) (now (ledger .exit)) ⌝ }
+    ensures { λ r. ⌜ Gives (now (ledger .entry)) (Call.Rebill (requestOf contract first last kwh supply wap etii qhs) with (now (book .entry))) r (now (answer .exit)) (now (ledger .exit)) ⌝ }
 {
     let call = Call::Rebill(Request {
         contract,
@@ -106,6 +112,8 @@ pub extern "C" fn ebds_rebill(
         kwh,
         supply,
         wap,
+        etii,
+        qhs,
     });
     make(ledger, book, call, answer)
 }

@@ -4,6 +4,7 @@ use Rattle.calendar.proofs.TableOfDates.{table-of-dates}
 use Rattle.calendar.proofs.DayAndDate.{day-and-date-inverse}
 use Rattle.rates.proofs.TwelveRates.{twelve-rates, baseline-not-given-to-qhs}
 use Rattle.rates.proofs.RateExamples.{caps-attained, discounts-begin, classes-applied}
+use Rattle.rates.proofs.SharesRated.{shares-rated}
 use Rattle.model.proofs.BookEntries.{entries-found}
 use Rattle.model.proofs.BoundaryExamples.{at-the-boundaries}
 use Rattle.model.proofs.RangeExamples.{ranges-kept}
@@ -31,6 +32,7 @@ all-established = record {
   caps-attained = caps-attained;
   discounts-begin = discounts-begin;
   classes-applied = classes-applied;
+  shares-rated = shares-rated;
   entries-found = entries-found;
   field-laws = field-laws;
   field-examples = field-examples;

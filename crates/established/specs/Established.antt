@@ -4,6 +4,7 @@ use Rattle.fields.specs.FieldLaws.{FieldLaws, FieldExamples}
 use Rattle.calendar.specs.TableOfDates.{TableOfDates, DayAndDateInverse}
 use Rattle.rates.specs.TwelveRates.{TwelveRates, BaselineNotGivenToQhs}
 use Rattle.rates.specs.RateExamples.{CapsAttained, DiscountsBegin, ClassesApplied}
+use Rattle.rates.specs.SharesRated.{SharesRated}
 use Rattle.model.specs.BookEntries.{EntriesFound}
 use Rattle.model.specs.BoundaryExamples.{AtTheBoundaries}
 use Rattle.model.specs.RangeExamples.{RangesKept}
@@ -31,6 +32,7 @@ pub record Established : Type 0 where
   pub caps-attained : CapsAttained
   pub discounts-begin : DiscountsBegin
   pub classes-applied : ClassesApplied
+  pub shares-rated : SharesRated
   pub entries-found : EntriesFound
   -- demand 2: the packed ledger, both ways
   pub field-laws : FieldLaws

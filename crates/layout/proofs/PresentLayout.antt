@@ -62,7 +62,7 @@ row-fits cs x o =
     let k = contractOf cs (x .bill) in
     let r = bill-ranges k (x .bill) (o .ranges) in
     let days = span-days _ _ (r .span) in
-    omega (arith, o .number, o .part, amount-bits k (x .bill) (r .kwh) (r .supply))
+    omega (arith, o .number, o .part, r .rateable .kwh, r .rateable .shares, r .rateable .supply, amount-bits k (x .bill) (r .rateable))
 
 row-laws : (cs : Contracts) → RecordLaws rowRecord (rowTest rules layout cs)
 unfolding size

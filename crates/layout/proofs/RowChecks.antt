@@ -82,7 +82,12 @@ module _ {R : Rules} {L : Layout} (laws : Lawful R L) where
     check-free e = rw e
 
     module _ (taken : eqb (getD v 0 0) 0 ≡ false) where
-      -- the bits that must stay zero are, so that the row decides
+      -- one of the bits that must stay zero is not
+      pub check-padding : allZero (drop (suc (length (L .row .widths))) v) ≡ false → Bad ≡ rowCheckOf R L cs least v
+      unfolding rowCheckOf
+      check-padding e = rw (taken, e)
+
+      -- they are, so that the row decides
       pub check-row : allZero (drop (suc (length (L .row .widths))) v) ≡ true → (r : RowCheck) → r ≡ heldCheckOf R cs least (recordOf (L .row) v) → r ≡ rowCheckOf R L cs least v
       unfolding rowCheckOf
       check-row e r h = rw (taken, e) h

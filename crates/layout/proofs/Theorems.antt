@@ -9,7 +9,6 @@ use Rattle.fields.specs.Field.{value, bitsOf, bytesOfBits}
 use Rattle.fields.specs.Fields.{fieldBits}
 use Rattle.records.specs.Pack.{size, pack}
 use Rattle.model.specs.Ledger.{fresh}
-use Rattle.model.proofs.BalanceByRates.{balances-by-rates}
 use Rattle.model.proofs.HoldsFacts.{bytes-hold}
 use Rattle.model.proofs.SheetAnswers.{bytes-answer-from-the-sheet, accepted-claim-leaves-rest}
 use Rattle.model.proofs.Postings.{bytes-same-as-postings}
@@ -52,7 +51,7 @@ packed-answers-from-the-sheet = bytes-answer-from-the-sheet rules (present .rule
 pub demand-three : DemandThree
 demand-three =
     let balanced = bytes-balance rules (present .rules) (format rules layout) format-laws in
-    record { balances = balances-by-rates machine balanced; last-claim = accepted-claim-leaves-rest rules machine balanced packed-answers-from-the-sheet }
+    record { balances = balanced; last-claim = accepted-claim-leaves-rest rules machine balanced packed-answers-from-the-sheet }
 
 pub packed-histories-hold-their-facts : PackedHistoriesHoldTheirFacts
 packed-histories-hold-their-facts = bytes-hold rules (present .rules) (format rules layout) format-laws

@@ -1,4 +1,5 @@
--- Document 01, "The packed ledger, 18,760 bytes": a ledger with a contract and a row, and its bytes to the end of that row. Assumes nothing.
+-- Document 01, "The packed ledger", with paper 1's rows: a ledger with a contract and a row, and its bytes to the end of that row. Assumes
+-- nothing.
 use mathlib.Core.Path.{_≡_}
 use mathlib.Core.List.{List, [], _∷_, _++_}
 use Prim.Native.Nat.{ℕ}
@@ -16,11 +17,12 @@ use Rattle.layout.specs.Present.{bytes}
 unfoldable pub exampleContract : Contract
 exampleContract = record { fuel = Gas; kind = Fixed 485 851; certificate = Qhs 511 }
 
--- contract 5, days 511 to 515, 100,000,000 kWh, R 40,000, S 999,999, 40,000,000,000,000 ticks
+-- contract 5, days 511 to 515, 100,000,000 kWh, of these 60,000,000 in the ETII share and 30,000,000 in the QHS share, R 40,000, S 999,999,
+-- 13,875,160,000,000 ticks
 unfoldable pub exampleRow : Row
 exampleRow = record {
-  bill = record { contract = 5; first = 511; last = 515; kwh = 100000000; reference = 40000; supply = 999999 };
-  amount = 40000000000000;
+  bill = record { contract = 5; first = 511; last = 515; kwh = 100000000; etii = 60000000; qhs = 30000000; reference = 40000; supply = 999999 };
+  amount = 13875160000000;
 }
 
 -- Northern Ireland, claims made 1,000, net pence claimed 123,456,789,012
@@ -35,8 +37,10 @@ unfoldable pub contractBytes : List ℕ
 contractBytes = 0xc7 ∷ 0x97 ∷ 0x53 ∷ 0x9f ∷ 0xf0 ∷ []
 
 unfoldable pub rowBytes : List ℕ
-rowBytes = 0x8a ∷ 0xff ∷ 0xc0 ∷ 0x77 ∷ 0xd7 ∷ 0x84 ∷ 0x00 ∷ 0x27 ∷ 0x10 ∷ 0x3d ∷ 0x08 ∷ 0xfc ∷ 0x24 ∷ 0x61 ∷ 0x39 ∷ 0xca ∷ 0x80 ∷ 0x00 ∷ []
+rowBytes =
+    0x8a ∷ 0xff ∷ 0xc0 ∷ 0x77 ∷ 0xd7 ∷ 0x84 ∷ 0x01 ∷ 0xc9 ∷ 0xc3 ∷ 0x80 ∷ 0x1c ∷ 0x9c ∷ 0x38 ∷ 0x00 ∷ 0x9c ∷ 0x40 ∷ 0xf4 ∷ 0x23 ∷ 0xf0
+    ∷ 0x32 ∷ 0x7a ∷ 0x3f ∷ 0xee ∷ 0x98 ∷ 0x00 ∷ []
 
--- the header in bytes 0 to 7, contract 5 in bytes 33 to 37, the first row in bytes 328 to 345
+-- the header in bytes 0 to 7, contract 5 in bytes 33 to 37, the first row in bytes 328 to 352
 abbrev pub LayoutExample : Type 0
-LayoutExample = take 346 (bytes exampleLedger) ≡ headerBytes ++ (replicate 25 0 ++ (contractBytes ++ (replicate 290 0 ++ rowBytes)))
+LayoutExample = take 353 (bytes exampleLedger) ≡ headerBytes ++ (replicate 25 0 ++ (contractBytes ++ (replicate 290 0 ++ rowBytes)))

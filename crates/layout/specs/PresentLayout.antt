@@ -1,4 +1,4 @@
--- Document 01, "The packed ledger, 18,760 bytes". Assumes nothing.
+-- Document 01, "The packed ledger", with paper 1's shares. Assumes nothing.
 use mathlib.Core.List.{[], _∷_}
 use Rattle.records.specs.Slots.{RecordLayout}
 use Rattle.rates.specs.declared.Contract.{Contract}
@@ -17,11 +17,11 @@ contractRecord = record {
   of = contractOfNumbers;
 }
 
--- after the bit held: contract 6, first day 10, last day 10, kWh 27, R 20, S 20, amount in ticks 50
+-- after the bit held: contract 6, first day 10, last day 10, kWh 27, ETII share 27, QHS share 27, R 20, S 20, amount in ticks 50, zeros 2
 abbrev pub rowRecord : RecordLayout Row
 rowRecord = record {
-  widths = 6 ∷ 10 ∷ 10 ∷ 27 ∷ 20 ∷ 20 ∷ 50 ∷ [];
-  zeros = [];
+  widths = 6 ∷ 10 ∷ 10 ∷ 27 ∷ 27 ∷ 27 ∷ 20 ∷ 20 ∷ 50 ∷ [];
+  zeros = 2 ∷ [];
   values = numbersOfRow;
   of = rowOfNumbers;
 }

@@ -9,7 +9,7 @@ use Rattle.model.specs.Calls.{CallWithBook}
 use Rattle.model.specs.Ledger.{Ledger, fresh}
 use Rattle.model.specs.WellFormed.{WellFormed}
 use Rattle.model.specs.History.{stateAfter}
-use Rattle.model.specs.BalanceByRates.{EveryHistoryBalancesByRates}
+use Rattle.model.specs.Balance.{EveryHistoryBalances}
 use Rattle.model.specs.HoldsFacts.{EveryHistoryHoldsItsFacts}
 use Rattle.model.specs.SheetAnswers.{EveryAnswerFromTheSheet, EveryAcceptedClaimLeavesRest}
 use Rattle.model.specs.Postings.{SameAsPostings}
@@ -18,7 +18,7 @@ use Rattle.layout.specs.Present.{rules, Formed, facts, bytes, machine}
 
 -- the length of a packed ledger: as the contracts have it, and as a well-formed ledger has it
 pub record PackedSize : Type 0 where
-  pub number : ledgerLength ≡ 18760
+  pub number : ledgerLength ≡ 25928
   pub formed : (b : List ℕ) → Formed b → length b ≡ ledgerLength
 
 -- "A fresh ledger is zeros but for the territory bit", which is the first
@@ -37,10 +37,10 @@ pub record ClaimsKept : Type 0 where
   pub at-most : (b : List ℕ) → Formed b → facts b .claims ≤ 1000
   pub no-pence : (b : List ℕ) → Formed b → facts b .claims ≡ 0 → facts b .pence ≡ 0
 
--- demand 3, on the bytes: every history balances, with due the sum of kWh times rate over the sheet's standing bills; and a claim that the
--- sheet accepts as the last call leaves 0 to 9,999
+-- demand 3, on the bytes: every history balances, with due the sum of the amounts, by the rates, of the sheet's standing bills; and a claim
+-- that the sheet accepts as the last call leaves 0 to 9,999
 pub record DemandThree : Type 0 where
-  pub balances : EveryHistoryBalancesByRates machine
+  pub balances : EveryHistoryBalances rules machine
   pub last-claim : EveryAcceptedClaimLeavesRest rules machine
 
 -- demand 2, for every history: the bytes hold exactly the sheet's facts

@@ -12,7 +12,7 @@ pub const CONTRACT_LENGTH: usize = 5;
 pub const FIRST_ROW: usize = FIRST_CONTRACT + CONTRACT_COUNT * CONTRACT_LENGTH;
 
 // How many bytes a row takes.
-pub const ROW_LENGTH: usize = 18;
+pub const ROW_LENGTH: usize = 25;
 
 // How many bytes a ledger takes.
 pub const LEDGER_LENGTH: usize = FIRST_ROW + ROW_COUNT * ROW_LENGTH;

@@ -1,14 +1,10 @@
--- The numbers of a row's slot are below their widths, and fill the slot. Assumes nothing.
-use mathlib.Core.Path.{_≡_, refl}
-use mathlib.Core.Bool.{true}
+-- The numbers of a row's slot are below their widths. Assumes nothing.
 use mathlib.Core.List.{List}
-use Prim.Native.Nat.{ℕ, suc, _^_, _<_}
-use lib.ListN.{length, drop}
+use Prim.Native.Nat.{ℕ, _^_, _<_}
 use Rattle.limits.specs.Limits.{contractCount, dayValues}
 use Rattle.fields.specs.Fields.{fields}
 use Rattle.fields.proofs.Laws.{field-lt}
 use Rattle.records.specs.Pack.{unpack}
-use Rattle.records.specs.Slots.{allZero}
 use Rattle.records.specs.OneSlot.{slotNumbers, slotPart, slotAt}
 use Rattle.records.proofs.Scan.{recordOf}
 use Rattle.layout.specs.Layout.{firstRow}
@@ -17,11 +13,6 @@ use Rattle.layout.specs.PresentLayout.{rowRecord}
 use Rattle.layout.specs.Present.{rules, layout}
 
 module _ (b : List ℕ) (i : ℕ) where
-  -- the fields fill the slot: there are no zeros after them
-  pub no-padding : allZero (drop (suc (length (rowRecord .widths))) (rowSlotAt rules layout b i)) ≡ true
-  unfolding slotAt slotNumbers unpack fields
-  no-padding = refl
-
   pub row-amount-low : recordOf rowRecord (rowSlotAt rules layout b i) .amount < 2 ^ 50
   unfolding slotAt slotNumbers unpack fields
   row-amount-low = field-lt (slotPart rowRecord (firstRow rules layout) b i) _ _

@@ -2,15 +2,16 @@
 use mathlib.Core.Path.{_≡_, sym, ap, _∙_}
 use mathlib.Core.Bool.{Bool, true, false, not}
 use mathlib.Core.List.{List}
-use Prim.Native.Nat.{ℕ, _+_, _-_, _<_}
+use Prim.Native.Nat.{ℕ, suc, _+_, _-_, _<_}
 use lib.Dec.{eqb}
 use lib.ListN.{length, take, drop, getD}
 use Rattle.limits.specs.Limits.{contractCount}
 use Rattle.basics.proofs.Tests.{not-yes, not-no}
-use Rattle.records.specs.OneSlot.{isTaken, recordIn, slotAt}
+use Rattle.records.specs.Slots.{allZero}
+use Rattle.records.specs.OneSlot.{slotNumbers, isTaken, recordIn, slotAt}
 use Rattle.records.proofs.OneSlot.{part-lent}
 use Rattle.rates.specs.declared.Contract.{Contract}
-use Rattle.rates.specs.Rates.{amount, Rateable}
+use Rattle.rates.specs.Amounts.{amount, Rateable}
 use Rattle.model.specs.declared.Row.{Row}
 use Rattle.model.specs.Contracts.{contractOf, isOpen}
 use Rattle.model.specs.PresentRules.{billOk}
@@ -19,15 +20,15 @@ use Rattle.layout.specs.Layout.{rowOk}
 use Rattle.layout.specs.PresentLayout.{rowRecord}
 use Rattle.layout.specs.Offsets.{ledgerLength, rowStart, rowLength}
 use Rattle.layout.specs.declared.RowCheck.{RowCheck}
-use Rattle.layout.specs.declared.RowCheck.the-variants.{Free}
+use Rattle.layout.specs.declared.RowCheck.the-variants.{Free, Bad}
 use Rattle.layout.specs.Check.{rowSlotAt, heldCheckOf, rowCheckOf}
 use Rattle.layout.specs.Present.{rules, layout, contracts}
 use Rattle.layout.proofs.Lawful.{offsets}
 use Rattle.layout.proofs.LayoutLaws.{row-closed, row-outside, row-rated, row-misrated}
-use Rattle.layout.proofs.RowChecks.{check-free, check-row}
+use Rattle.layout.proofs.RowChecks.{check-free, check-padding, check-row}
 use Rattle.layout.proofs.Present.{present}
 use Rattle.ledger.specs.Rows.{RowRead}
-use Rattle.ledger.proofs.RowNumbers.{no-padding, row-contract-low, row-days-low}
+use Rattle.ledger.proofs.RowNumbers.{row-contract-low, row-days-low}
 
 -- ---- `row_ok`: the contract is open, the ranges are kept, the amount is the part of due
 
@@ -50,9 +51,9 @@ module _ (b : List ℕ) (x : Row) (low : x .bill .contract < contractCount) (o :
       another-amount e = sym (row-misrated rules (contracts b) x low (opened is) k read (sym ranges ∙ not-no t inside) (λ h. e (h ∙ sym rated)))
 
 pub rateable : (x : Row) (k : Contract) (t : Bool) → t ≡ billOk k (x .bill) → not t ≡ false → Rateable (x .bill)
-rateable x k t e f = let r = bill-ranges k (x .bill) (sym e ∙ not-no t f) in record { kwh = r .kwh; supply = r .supply }
+rateable x k t e f = bill-ranges k (x .bill) (sym e ∙ not-no t f) .rateable
 
--- ---- `check_row`: the slot's bytes, whether it is held, and the row that it holds
+-- ---- `check_row`: the slot's bytes, whether it is held, whether a bit of its zeros is set, and the row that it holds
 
 module _ (b : List ℕ) (i least : ℕ) where
   abbrev v : List ℕ
@@ -65,6 +66,9 @@ module _ (b : List ℕ) (i least : ℕ) where
   abbrev lent : List ℕ
   lent = take (at + rowLength - at) (drop at b)
 
+  abbrev zeroBits : List ℕ → List ℕ
+  zeroBits numbers = drop (suc (length (rowRecord .widths))) numbers
+
   module _ (h : Bool) (e : h ≡ isTaken rowRecord lent) where
     held-is : h ≡ not (eqb (getD v 0 0) 0)
     unfolding isTaken slotAt offsets
@@ -73,9 +77,21 @@ module _ (b : List ℕ) (i least : ℕ) where
     pub slot-free : not h ≡ true → Free ≡ rowCheckOf rules layout (contracts b) least v
     slot-free f = check-free present (contracts b) least v (not-no _ (sym held-is ∙ not-yes h f))
 
-    pub slot-held : not h ≡ false → (x : Row) → x ≡ recordIn rowRecord lent → (r : RowCheck) → r ≡ heldCheckOf rules (contracts b) least x → r ≡ rowCheckOf rules layout (contracts b) least v
-    unfolding recordIn slotAt offsets
-    slot-held f x m r g = check-row present (contracts b) least v (not-yes _ (sym held-is ∙ not-no h f)) (no-padding b i) r (g ∙ ap (heldCheckOf rules (contracts b) least) (m ∙ ap (recordIn rowRecord) (part-lent at rowLength b)))
+    module _ (f : not h ≡ false) (p : Bool) (z : p ≡ not (allZero (zeroBits (slotNumbers rowRecord lent)))) where
+      taken : eqb (getD v 0 0) 0 ≡ false
+      taken = not-yes _ (sym held-is ∙ not-no h f)
+
+      padded-is : p ≡ not (allZero (zeroBits v))
+      unfolding slotAt offsets
+      padded-is = z ∙ ap (λ (s : List ℕ). not (allZero (zeroBits (slotNumbers rowRecord s)))) (part-lent at rowLength b)
+
+      pub slot-padded : p ≡ true → Bad ≡ rowCheckOf rules layout (contracts b) least v
+      slot-padded g = check-padding present (contracts b) least v taken (not-yes _ (sym padded-is ∙ g))
+
+      pub slot-held : p ≡ false → (x : Row) → x ≡ recordIn rowRecord lent → (r : RowCheck) → r ≡ heldCheckOf rules (contracts b) least x → r ≡ rowCheckOf rules layout (contracts b) least v
+      unfolding recordIn slotAt offsets
+      slot-held g x m r k =
+          check-row present (contracts b) least v taken (not-no _ (sym padded-is ∙ g)) r (k ∙ ap (heldCheckOf rules (contracts b) least) (m ∙ ap (recordIn rowRecord) (part-lent at rowLength b)))
 
   pub row-read : length b ≡ ledgerLength → (x : Row) → x ≡ recordIn rowRecord lent → RowRead b x
   unfolding recordIn slotAt offsets

@@ -69,7 +69,7 @@ fn row_ok(b: &[u8], row: Row) -> bool
     if !rules::ranges::bill_ok(contract, bill) {
         return false;
     }
-    if row.amount == rates::amount(contract, bill) {
+    if row.amount == rates::amounts::amount(contract, bill) {
         return true;
     }
     false
@@ -110,6 +110,9 @@ fn check_row(b: &[u8], i: usize, least: u32) -> RowCheck
     let slot = &b[at..at + ROW_LENGTH];
     if !codec::rows::is_held(slot) {
         return RowCheck::Free;
+    }
+    if codec::rows::padding_set(slot) {
+        return RowCheck::Bad;
     }
     check_held(b, codec::rows::unpack_row(slot), least)
 }

@@ -120,7 +120,7 @@ module _ (R : Rules) (ok : RulesLaws R) where
     pence-add-up : sumℤ claimPence answered ≡ pos (l .pence)
     pence-add-up = sum-append claimPence earlier _ ∙ rw pence₀ (sym (pence-run h l₀ s₀ r₀))
 
-    part-cap : (bs : List Bill) → All (BillOk R (s .contracts)) bs → (b : Bill) → List·Memᴰ b bs → partOfDue R (s .contracts) b ≤ R .most (contractOf (s .contracts) b) b
+    part-cap : (bs : List Bill) → All (BillOk R (s .contracts)) bs → (b : Bill) → List·Memᴰ b bs → partOfDue R (s .contracts) b ≤ R .cap (contractOf (s .contracts) b) b
     unfolding partOfDue
     part-cap bs a b m = ok .capped _ b (all-mem (BillOk R (s .contracts)) bs a b m .ranges)
 

@@ -10,8 +10,8 @@ use Rattle.model.specs.PresentRules.{badBook, badKind, badDays, badEffec
 use Rattle.model.specs.Sheet.{view}
 use Rattle.model.specs.Run.{zeroBook}
 use Rattle.model.specs.BookEntries.{pricedAt}
-use Rattle.model.specs.BoundaryExamples.{standing, sheetWith, britain, northernIreland, fixedAndIndex, sheetOfBills, sheetOfClaims, april, atNumber3, atNumber4, atNumber5, atNumber6, atNumber7, atNumber8, atNumber9, atNumber10, atNumber11, atNumber12, atNumber13, inCheckingOrder, asGiven, AtTheBoundaries}
+use Rattle.model.specs.BoundaryExamples.{standing, sheetWith, britain, northernIreland, fixedAndIndex, sheetOfBills, sheetOfClaims, april, atNumber3, atNumber4, atNumber5, atNumber6, atNumber7, atNumber8, atNumber14, atNumber9, atNumber10, atNumber11, atNumber12, atNumber13, inCheckingOrder, asGiven, AtTheBoundaries}
 
 pub at-the-boundaries : AtTheBoundaries
-unfolding atNumber3 atNumber4 atNumber5 atNumber6 atNumber7 atNumber8 atNumber9 atNumber10 atNumber11 atNumber12 atNumber13 inCheckingOrder asGiven standing sheetWith britain northernIreland fixedAndIndex sheetOfBills sheetOfClaims april pricedAt zeroBook view refusal tests badBook badKind badDays badEffective badSpan badAmounts noPrice named sharing reference contractAt isOpen putContract opening schemeMonth dateOf dates
-at-the-boundaries = (refl, (refl, (refl, (refl, (refl, (refl, (refl, (refl, (refl, (refl, (refl, (refl, tt))))))))))))
+unfolding atNumber3 atNumber4 atNumber5 atNumber6 atNumber7 atNumber8 atNumber14 atNumber9 atNumber10 atNumber11 atNumber12 atNumber13 inCheckingOrder asGiven standing sheetWith britain northernIreland fixedAndIndex sheetOfBills sheetOfClaims april pricedAt zeroBook view refusal tests badBook badKind badDays badEffective badSpan badAmounts noPrice named sharing reference contractAt isOpen putContract opening schemeMonth dateOf dates
+at-the-boundaries = (refl, (refl, (refl, (refl, (refl, (refl, (refl, (refl, (refl, (refl, (refl, (refl, (refl, tt)))))))))))))

@@ -21,7 +21,6 @@ pub mod BytesBalance
 pub mod HoldsFacts
 pub mod SheetAnswers
 pub mod Postings
-pub mod BalanceByRates
 pub mod Run
 pub mod BookEntries
 pub mod BoundaryExamples

@@ -9,6 +9,7 @@ use Rattle.limits.specs.Limits.{highestPrice, mostKwhStored, contractCount, row
 use Rattle.basics.proofs.Tests.{not-no, no-not, not-yes, lt-no, lt-yes, le-no, le-yes, yes-le, all-every}
 use Rattle.rates.specs.declared.Contract.{Contract}
 use Rattle.rates.specs.declared.Bill.{Bill}
+use Rattle.rates.specs.Amounts.{Rateable}
 use Rattle.rates.proofs.WithinCaps.{amount-capped, amount-low}
 use Rattle.model.specs.Codes.{opening, certify}
 use Rattle.model.specs.ContractNumbers.{numbersOfContract, contractOfNumbers, fuelIn, kindIn, priceFixDayIn, entryDayIn, classIn, effectiveDayIn}
@@ -18,7 +19,7 @@ use Rattle.model.specs.declared.Request.{Request}
 use Rattle.model.specs.Calls.{CallWithBook, View, named, sharing, requestedBill, _with_}
 use Rattle.model.specs.Book.{reference}
 use Rattle.model.specs.Rules.{refusal}
-use Rattle.model.specs.PresentRules.{badBook, badNumber, badKind, badClass, badDays, badEffective, badSpan, badAmounts, noPrice, tests, contractTests, contractRanges, contractOk, billTests, billOk, most, presentRules}
+use Rattle.model.specs.PresentRules.{badBook, badNumber, badKind, badClass, badDays, badEffective, badSpan, badAmounts, badShares, noPrice, tests, contractTests, contractRanges, contractOk, billTests, billOk, presentRules}
 use Rattle.model.proofs.Refusals.{fitsAt, numbered, clear}
 use Rattle.model.proofs.Codes.{fuel-code, kind-code, kind-days, class-code, class-day}
 use Rattle.model.proofs.AcceptedBill.{span-days, kind-low, kwh-low, supply-low, price-low}
@@ -71,8 +72,7 @@ contract-numbers t v e =
 -- those of a held row, by its bill
 pub record BillRanges (k : Contract) (b : Bill) : Type 0 where
   pub span : badSpan (b .first) (b .last) ≡ false
-  pub kwh : b .kwh ≤ mostKwhStored
-  pub supply : b .supply ≤ highestPrice
+  pub rateable : Rateable b
   pub reference : b .reference ≤ highestPrice
   pub priced : noPrice (k .kind) (b .reference) ≡ false
 
@@ -80,7 +80,12 @@ pub bill-ranges : (k : Contract) (b : Bill) → billOk k b ≡ true → BillRang
 unfolding billOk
 bill-ranges k b e =
     let a = all-every (billTests k b) e in
-    record { span = not-yes _ (search); kwh = le-yes _ _ (search); supply = le-yes _ _ (search); reference = le-yes _ _ (search); priced = not-yes _ (search) }
+    record {
+      span = not-yes _ (search);
+      rateable = record { kwh = le-yes _ _ (search); shares = lt-no _ _ (not-yes _ (search)); supply = le-yes _ _ (search) };
+      reference = le-yes _ _ (search);
+      priced = not-yes _ (search);
+    }
 
 -- an opened contract keeps the ranges, and so does one with another certificate
 opening-ok : (t fuel kind fix entry : ℕ) → badKind t fuel kind ≡ false → badDays kind fix entry ≡ false → contractOk t (opening fuel kind fix entry) ≡ true
@@ -120,15 +125,17 @@ module _ (v : View) (q : Request) (book : List ℕ) where
   k = contractAt (v .contracts) (q .contract)
 
   taken : badBook book ≡ false → badNumber (q .contract) ≡ false → not (isOpen (v .contracts) (q .contract)) ≡ false
-      → badSpan (q .first) (q .last) ≡ false → badAmounts k q ≡ false → noPrice (k .kind) (reference k (q .first) (q .wap) book) ≡ false → Taken presentRules v q book
+      → badSpan (q .first) (q .last) ≡ false → badAmounts k q ≡ false → badShares (q .kwh) (q .etii) (q .qhs) ≡ false → noPrice (k .kind) (reference k (q .first) (q .wap) book) ≡ false
+      → Taken presentRules v q book
   unfolding billOk requestedBill
-  taken e3 e4 e5 e7 e8 e11 =
+  taken e3 e4 e5 e7 e8 e14 e11 =
       record {
         number = le-no contractCount (q .contract) e4;
         isOpened = not-no _ e5;
         ranges = λ g. rw (
           no-not _ e7,
           yes-le (q .kwh) mostKwhStored (omega (arith, kwh-low k q book e3 e8)),
+          no-not _ e14,
           yes-le (q .supply) highestPrice (supply-low k q book e3 e8),
           yes-le _ highestPrice (price-low k q book e3 e8),
           no-not _ e11,
@@ -136,13 +143,13 @@ module _ (v : View) (q : Request) (book : List ℕ) where
       }
 
 pub present-rules-laws : RulesLaws presentRules
-unfolding tests refusal most
+unfolding tests refusal
 present-rules-laws = record {
   opens = opens;
-  bills = λ v q book e. let p = passed v (Call.Bill q with book) e in taken v q book (p 3) (p 4) (p 5) (p 7) (p 8) (p 11);
+  bills = λ v q book e. let p = passed v (Call.Bill q with book) e in taken v q book (p 3) (p 4) (p 5) (p 7) (p 8) (p 14) (p 11);
   bill-free = λ v q book e. let h = lt-no 0 (v .held (sharing (q .contract) (q .first) (q .last))) (passed v (Call.Bill q with book) e 10) in omega arith;
   bill-room = λ v q book e. le-no rowCount (v .held (λ x. true)) (passed v (Call.Bill q with book) e 12);
-  rebills = λ v q book e. let p = passed v (Call.Rebill q with book) e in taken v q book (p 3) (p 4) (p 5) (p 7) (p 8) (p 11);
+  rebills = λ v q book e. let p = passed v (Call.Rebill q with book) e in taken v q book (p 3) (p 4) (p 5) (p 7) (p 8) (p 14) (p 11);
   rebill-found = λ v q book e. lt-yes 0 (v .held (named (q .contract) (q .first))) (not-no _ (passed v (Call.Rebill q with book) e 9));
   rebill-free = λ v q book e.
       let h = lt-no 0 (v .held (λ b. sharing (q .contract) (q .first) (q .last) b && not (named (q .contract) (q .first) b))) (passed v (Call.Rebill q with book) e 10) in
@@ -151,7 +158,7 @@ present-rules-laws = record {
   claims = λ v book e. le-no mostClaims (v .claims) (passed v (Call.Claim with book) e 13);
   totals = λ v book. refl;
   days = λ k b e. span-days (b .first) (b .last) (bill-ranges k b e .span);
-  low = λ k b e. let r = bill-ranges k b e in amount-low k b (r .kwh) (r .supply);
+  low = λ k b e. amount-low k b (bill-ranges k b e .rateable);
   any-cert = any-cert;
   capped = λ k b e. amount-capped k b;
 }

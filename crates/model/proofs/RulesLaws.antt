@@ -45,4 +45,4 @@ pub record RulesLaws (R : Rules) : Type 0 where
   pub days : (k : Contract) (b : Bill) → R .billOk k b ≡ true → (b .first ≤ b .last) × (b .last ≤ lastDay)
   pub low : (k : Contract) (b : Bill) → R .billOk k b ≡ true → R .amount k b ≤ highestAmount
   pub any-cert : (k : Contract) (class effective : ℕ) (b : Bill) → R .billOk k b ≡ true → R .billOk (certify k class effective) b ≡ true
-  pub capped : (k : Contract) (b : Bill) → R .billOk k b ≡ true → R .amount k b ≤ R .most k b
+  pub capped : (k : Contract) (b : Bill) → R .billOk k b ≡ true → R .amount k b ≤ R .cap k b

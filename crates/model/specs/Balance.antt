@@ -27,9 +27,9 @@ pub record Balanced (R : Rules) (sheet : Sheet) (answered : List Answer) (next :
   pub claims : pos ticksPerPenny *ℤ sumℤ claimPence answered +ℤ unclaimed ≡ pos (due R sheet)
   -- if the last call is an accepted claim, the unclaimed amount is 0 to 9,999
   pub claimed : (before : List Answer) (pence : ℤ) (rest : ℕ) → answered ≡ before ++ (Claimed pence rest ∷ []) → (u : ℕ) × (unclaimed ≡ pos u) × (u < ticksPerPenny)
-  -- for each standing bill the ledger holds its part of due as its amount, and that part is at most what the cap allows
+  -- for each standing bill the ledger holds its part of due as its amount, and that part is at most its cap
   pub rows : (b : Bill) → List·Memᴰ b (sheet .bills) → List·Memᴰ (standingRow R (sheet .contracts) b) held
-  pub capped : (b : Bill) → List·Memᴰ b (sheet .bills) → partOfDue R (sheet .contracts) b ≤ R .most (contractOf (sheet .contracts) b) b
+  pub capped : (b : Bill) → List·Memᴰ b (sheet .bills) → partOfDue R (sheet .contracts) b ≤ R .cap (contractOf (sheet .contracts) b) b
 
 -- demand 3, of a machine: from a fresh ledger of either territory, every list of calls
 abbrev pub EveryHistoryBalances : Rules → Machine → Type 0

@@ -1,4 +1,4 @@
--- Document 01, "Turned down, in checking order": calls on either side of the limits, with the number that turns each down, 0 where none
+-- Document 01, "Turned down, in checking order", and paper 1's number 14: calls on either side of the limits, with the number that turns each down, 0 where none
 -- does. Assumes nothing.
 use mathlib.Core.Path.{_≡_}
 use mathlib.Core.Bool.{Bool, true}
@@ -31,7 +31,7 @@ c on s gives n = record { sheet = s; call = c; number = n }
 
 -- a standing bill of a contract
 unfoldable pub standing : (contract first last : ℕ) → Bill
-standing c first last = record { contract = c; first = first; last = last; kwh = 1; reference = 1; supply = 1 }
+standing c first last = record { contract = c; first = first; last = last; kwh = 1; etii = 0; qhs = 0; reference = 1; supply = 1 }
 
 -- contract 0 flexible electricity, contract 1 variable gas
 unfoldable pub sheetWith : (territory : ℕ) → List Bill → (claims : ℕ) → Sheet
@@ -63,10 +63,10 @@ april = pricedAt 1716
 -- 3: the book isn't 1,740 entries or has one above 999,999
 unfoldable pub atNumber3 : List Boundary
 atNumber3 =
-    (Call.Bill (requestOf 0 486 499 1 1 1) with (replicate 1739 0) on britain gives 3)
-    ∷ (Call.Bill (requestOf 0 486 499 1 1 1) with (replicate 1741 0) on britain gives 3)
-    ∷ (Call.Bill (requestOf 0 486 499 1 1 1) with (1000000 ∷ replicate 1739 0) on britain gives 3)
-    ∷ (Call.Bill (requestOf 0 486 499 1 1 1) with (999999 ∷ replicate 1739 0) on britain gives 0)
+    (Call.Bill (requestOf 0 486 499 1 1 1 0 0) with (replicate 1739 0) on britain gives 3)
+    ∷ (Call.Bill (requestOf 0 486 499 1 1 1 0 0) with (replicate 1741 0) on britain gives 3)
+    ∷ (Call.Bill (requestOf 0 486 499 1 1 1 0 0) with (1000000 ∷ replicate 1739 0) on britain gives 3)
+    ∷ (Call.Bill (requestOf 0 486 499 1 1 1 0 0) with (999999 ∷ replicate 1739 0) on britain gives 0)
     ∷ []
 
 -- 4: the contract number is above 63
@@ -107,23 +107,40 @@ atNumber7 =
     ∷ (Call.Cert 0 2 511 with [] on britain gives 0)
     ∷ (Call.Cert 0 0 1 with [] on britain gives 7)
     ∷ (Call.Cert 0 0 0 with [] on britain gives 0)
-    ∷ (Call.Bill (requestOf 0 485 499 1 1 1) with zeroBook on britain gives 7)
-    ∷ (Call.Bill (requestOf 0 486 499 1 1 1) with zeroBook on britain gives 0)
-    ∷ (Call.Bill (requestOf 0 851 852 1 1 1) with zeroBook on britain gives 7)
-    ∷ (Call.Bill (requestOf 0 851 851 1 1 1) with zeroBook on britain gives 0)
-    ∷ (Call.Bill (requestOf 0 499 498 1 1 1) with zeroBook on britain gives 7)
+    ∷ (Call.Bill (requestOf 0 485 499 1 1 1 0 0) with zeroBook on britain gives 7)
+    ∷ (Call.Bill (requestOf 0 486 499 1 1 1 0 0) with zeroBook on britain gives 0)
+    ∷ (Call.Bill (requestOf 0 851 852 1 1 1 0 0) with zeroBook on britain gives 7)
+    ∷ (Call.Bill (requestOf 0 851 851 1 1 1 0 0) with zeroBook on britain gives 0)
+    ∷ (Call.Bill (requestOf 0 499 498 1 1 1 0 0) with zeroBook on britain gives 7)
     ∷ []
 
 -- 8: kWh is above 100,000,000, S or WAP above 999,999, or a WAP not 0 where it must be
 unfoldable pub atNumber8 : List Boundary
 atNumber8 =
-    (Call.Bill (requestOf 0 486 499 100000001 1 1) with zeroBook on britain gives 8)
-    ∷ (Call.Bill (requestOf 0 486 499 1 1000000 1) with zeroBook on britain gives 8)
-    ∷ (Call.Bill (requestOf 0 486 499 1 1 1000000) with zeroBook on britain gives 8)
-    ∷ (Call.Bill (requestOf 0 486 499 100000000 999999 999999) with zeroBook on britain gives 0)
-    ∷ (Call.Bill (requestOf 1 486 515 1 1 1) with april on britain gives 8)
-    ∷ (Call.Bill (requestOf 0 486 515 1 1 1) with pricedAt 5 on fixedAndIndex gives 8)
-    ∷ (Call.Bill (requestOf 1 486 515 1 1 1) with pricedAt 1728 on fixedAndIndex gives 8)
+    (Call.Bill (requestOf 0 486 499 100000001 1 1 0 0) with zeroBook on britain gives 8)
+    ∷ (Call.Bill (requestOf 0 486 499 1 1000000 1 0 0) with zeroBook on britain gives 8)
+    ∷ (Call.Bill (requestOf 0 486 499 1 1 1000000 0 0) with zeroBook on britain gives 8)
+    ∷ (Call.Bill (requestOf 0 486 499 100000000 999999 999999 0 0) with zeroBook on britain gives 0)
+    ∷ (Call.Bill (requestOf 1 486 515 1 1 1 0 0) with april on britain gives 8)
+    ∷ (Call.Bill (requestOf 0 486 515 1 1 1 0 0) with pricedAt 5 on fixedAndIndex gives 8)
+    ∷ (Call.Bill (requestOf 1 486 515 1 1 1 0 0) with pricedAt 1728 on fixedAndIndex gives 8)
+    ∷ []
+
+-- 14: the two shares exceed kWh, added without a limit
+unfoldable pub atNumber14 : List Boundary
+atNumber14 =
+    (Call.Bill (requestOf 0 486 499 100 1 1 100 0) with zeroBook on britain gives 0)
+    ∷ (Call.Bill (requestOf 0 486 499 100 1 1 0 100) with zeroBook on britain gives 0)
+    ∷ (Call.Bill (requestOf 0 486 499 100 1 1 60 40) with zeroBook on britain gives 0)
+    ∷ (Call.Bill (requestOf 0 486 499 100 1 1 101 0) with zeroBook on britain gives 14)
+    ∷ (Call.Bill (requestOf 0 486 499 100 1 1 0 101) with zeroBook on britain gives 14)
+    ∷ (Call.Bill (requestOf 0 486 499 100 1 1 60 41) with zeroBook on britain gives 14)
+    ∷ (Call.Bill (requestOf 0 486 499 0 1 1 0 1) with zeroBook on britain gives 14)
+    ∷ (Call.Bill (requestOf 0 486 499 100 1 1 4294967295 0) with zeroBook on britain gives 14)
+    ∷ (Call.Bill (requestOf 0 486 499 100 1 1 4294967295 1) with zeroBook on britain gives 14)
+    ∷ (Call.Bill (requestOf 0 486 499 100 1 1 4294967295 4294967295) with zeroBook on britain gives 14)
+    ∷ (Call.Rebill (requestOf 0 500 510 100 1 1 60 40) with zeroBook on britain gives 0)
+    ∷ (Call.Rebill (requestOf 0 500 510 100 1 1 60 41) with zeroBook on britain gives 14)
     ∷ []
 
 -- 9: no row of that contract has that first day
@@ -132,34 +149,34 @@ atNumber9 =
     (Call.Cancel 0 501 with [] on britain gives 9)
     ∷ (Call.Cancel 1 500 with [] on britain gives 9)
     ∷ (Call.Cancel 0 500 with [] on britain gives 0)
-    ∷ (Call.Rebill (requestOf 0 501 501 1 1 1) with zeroBook on britain gives 9)
+    ∷ (Call.Rebill (requestOf 0 501 501 1 1 1 0 0) with zeroBook on britain gives 9)
     ∷ []
 
 -- 10: another row of the contract shares a day with the span
 unfoldable pub atNumber10 : List Boundary
 atNumber10 =
-    (Call.Bill (requestOf 0 510 599 1 1 1) with zeroBook on britain gives 10)
-    ∷ (Call.Bill (requestOf 0 511 600 1 1 1) with zeroBook on britain gives 10)
-    ∷ (Call.Bill (requestOf 0 511 599 1 1 1) with zeroBook on britain gives 0)
-    ∷ (Call.Rebill (requestOf 0 500 600 1 1 1) with zeroBook on britain gives 10)
-    ∷ (Call.Rebill (requestOf 0 500 599 1 1 1) with zeroBook on britain gives 0)
+    (Call.Bill (requestOf 0 510 599 1 1 1 0 0) with zeroBook on britain gives 10)
+    ∷ (Call.Bill (requestOf 0 511 600 1 1 1 0 0) with zeroBook on britain gives 10)
+    ∷ (Call.Bill (requestOf 0 511 599 1 1 1 0 0) with zeroBook on britain gives 0)
+    ∷ (Call.Rebill (requestOf 0 500 600 1 1 1 0 0) with zeroBook on britain gives 10)
+    ∷ (Call.Rebill (requestOf 0 500 599 1 1 1 0 0) with zeroBook on britain gives 0)
     ∷ []
 
 -- 11: the book's price needed is 0; a flexible contract needs none
 unfoldable pub atNumber11 : List Boundary
 atNumber11 =
-    (Call.Bill (requestOf 1 516 545 1 1 0) with april on britain gives 11)
-    ∷ (Call.Bill (requestOf 1 515 515 1 1 0) with april on britain gives 0)
-    ∷ (Call.Bill (requestOf 0 486 499 1 1 0) with zeroBook on britain gives 0)
-    ∷ (Call.Bill (requestOf 0 486 515 1 1 0) with pricedAt 6 on fixedAndIndex gives 11)
-    ∷ (Call.Bill (requestOf 0 486 515 1 1 0) with pricedAt 5 on fixedAndIndex gives 0)
-    ∷ (Call.Bill (requestOf 1 486 515 1 1 0) with zeroBook on fixedAndIndex gives 11)
-    ∷ (Call.Bill (requestOf 1 486 515 1 1 0) with pricedAt 1728 on fixedAndIndex gives 0)
+    (Call.Bill (requestOf 1 516 545 1 1 0 0 0) with april on britain gives 11)
+    ∷ (Call.Bill (requestOf 1 515 515 1 1 0 0 0) with april on britain gives 0)
+    ∷ (Call.Bill (requestOf 0 486 499 1 1 0 0 0) with zeroBook on britain gives 0)
+    ∷ (Call.Bill (requestOf 0 486 515 1 1 0 0 0) with pricedAt 6 on fixedAndIndex gives 11)
+    ∷ (Call.Bill (requestOf 0 486 515 1 1 0 0 0) with pricedAt 5 on fixedAndIndex gives 0)
+    ∷ (Call.Bill (requestOf 1 486 515 1 1 0 0 0) with zeroBook on fixedAndIndex gives 11)
+    ∷ (Call.Bill (requestOf 1 486 515 1 1 0 0 0) with pricedAt 1728 on fixedAndIndex gives 0)
     ∷ []
 
 -- 12: 1,024 rows are held already
 unfoldable pub atNumber12 : List Boundary
-atNumber12 = (Call.Bill (requestOf 0 486 499 1 1 1) with zeroBook on sheetOfBills 1024 gives 12) ∷ (Call.Bill (requestOf 0 486 499 1 1 1) with zeroBook on sheetOfBills 1023 gives 0) ∷ []
+atNumber12 = (Call.Bill (requestOf 0 486 499 1 1 1 0 0) with zeroBook on sheetOfBills 1024 gives 12) ∷ (Call.Bill (requestOf 0 486 499 1 1 1 0 0) with zeroBook on sheetOfBills 1023 gives 0) ∷ []
 
 -- 13: 1,000 claims were made already
 unfoldable pub atNumber13 : List Boundary
@@ -168,17 +185,19 @@ atNumber13 = (Call.Claim with [] on sheetOfClaims 1000 gives 13) ∷ (Call.Claim
 -- calls that two tests or more turn down: the number is the first in checking order
 unfoldable pub inCheckingOrder : List Boundary
 inCheckingOrder =
-    (Call.Bill (requestOf 64 486 499 1 1 1) with (replicate 1739 0) on britain gives 3)
+    (Call.Bill (requestOf 64 486 499 1 1 1 0 0) with (replicate 1739 0) on britain gives 3)
     ∷ (Call.Open 64 2 0 0 0 with [] on britain gives 4)
     ∷ (Call.Open 1 2 0 0 0 with [] on britain gives 5)
     ∷ (Call.Open 2 2 0 852 0 with [] on britain gives 6)
     ∷ (Call.Cert 2 3 852 with [] on britain gives 5)
     ∷ (Call.Cert 0 3 852 with [] on britain gives 6)
-    ∷ (Call.Bill (requestOf 0 485 499 100000001 1 1) with zeroBook on britain gives 7)
-    ∷ (Call.Rebill (requestOf 0 501 501 100000001 1 1) with zeroBook on britain gives 8)
-    ∷ (Call.Rebill (requestOf 0 501 501 1 1 1) with zeroBook on britain gives 9)
-    ∷ (Call.Bill (requestOf 1 486 486 1 1 0) with zeroBook on sheetOfBills 1 gives 10)
-    ∷ (Call.Bill (requestOf 1 487 487 1 1 0) with zeroBook on sheetOfBills 1024 gives 11)
+    ∷ (Call.Bill (requestOf 0 485 499 100000001 1 1 0 0) with zeroBook on britain gives 7)
+    ∷ (Call.Rebill (requestOf 0 501 501 100000001 1 1 4294967295 0) with zeroBook on britain gives 8)
+    ∷ (Call.Rebill (requestOf 0 501 501 1 1 1 1 1) with zeroBook on britain gives 14)
+    ∷ (Call.Bill (requestOf 1 486 486 1 1 0 2 0) with zeroBook on sheetOfBills 1 gives 14)
+    ∷ (Call.Rebill (requestOf 0 501 501 1 1 1 0 0) with zeroBook on britain gives 9)
+    ∷ (Call.Bill (requestOf 1 486 486 1 1 0 0 0) with zeroBook on sheetOfBills 1 gives 10)
+    ∷ (Call.Bill (requestOf 1 487 487 1 1 0 0 0) with zeroBook on sheetOfBills 1024 gives 11)
     ∷ []
 
 -- the number that turns the call down is the one given
@@ -188,4 +207,4 @@ asGiven e = eqb (refusal presentRules (view (e .sheet)) (e .call)) (e .number)
 abbrev pub AtTheBoundaries : Type 0
 AtTheBoundaries = All
     (λ table. every (map asGiven table) ≡ true)
-    (atNumber3 ∷ atNumber4 ∷ atNumber5 ∷ atNumber6 ∷ atNumber7 ∷ atNumber8 ∷ atNumber9 ∷ atNumber10 ∷ atNumber11 ∷ atNumber12 ∷ atNumber13 ∷ inCheckingOrder ∷ [])
+    (atNumber3 ∷ atNumber4 ∷ atNumber5 ∷ atNumber6 ∷ atNumber7 ∷ atNumber8 ∷ atNumber14 ∷ atNumber9 ∷ atNumber10 ∷ atNumber11 ∷ atNumber12 ∷ atNumber13 ∷ inCheckingOrder ∷ [])

@@ -21,8 +21,9 @@ pub data CallWithBook : Type 0 where
   _with_ : Call → (book : List ℕ) → CallWithBook
 
 -- the numbers of a bill or rebill in the paper's order
-abbrev pub requestOf : (contract first last kwh supply wap : ℕ) → Request
-requestOf contract first last kwh supply wap = record { contract = contract; first = first; last = last; kwh = kwh; supply = supply; wap = wap }
+abbrev pub requestOf : (contract first last kwh supply wap etii qhs : ℕ) → Request
+requestOf contract first last kwh supply wap etii qhs =
+    record { contract = contract; first = first; last = last; kwh = kwh; supply = supply; wap = wap; etii = etii; qhs = qhs }
 
 -- ---- answers
 
@@ -135,6 +136,8 @@ billUnder k q book = record {
   first = q .first;
   last = q .last;
   kwh = q .kwh;
+  etii = q .etii;
+  qhs = q .qhs;
   reference = reference k (q .first) (q .wap) book;
   supply = q .supply;
 }

@@ -17,7 +17,6 @@ pub mod Format
 pub mod HoldsFacts
 pub mod SheetAnswers
 pub mod Postings
-pub mod BalanceByRates
 pub mod Run
 pub mod BookEntries
 pub mod BoundaryExamples

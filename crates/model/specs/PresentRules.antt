@@ -1,8 +1,8 @@
--- Document 01, "Turned down, in checking order" and the ranges of a well-formed ledger: the rules in force. The limits are named in crate
+-- Document 01, "Turned down, in checking order" and the ranges of a well-formed ledger, with paper 1 of document 02: the rules in force. The limits are named in crate
 -- `limits`. Assumes nothing.
 use mathlib.Core.Bool.{Bool, true, not, cond, _&&_, _||_}
 use mathlib.Core.List.{List, [], _∷_, _++_}
-use Prim.Native.Nat.{ℕ, _*_}
+use Prim.Native.Nat.{ℕ, _+_}
 use lib.Dec.{leb, ltb, eqb}
 use lib.ListN.{length}
 use Rattle.limits.specs.Limits.{lastDay, firstSchemeDay, firstQhsDay, highestPrice, mostKwhGiven, mostKwhStored, bookLength, contractCount, rowCount, mostClaims}
@@ -11,7 +11,7 @@ use Rattle.basics.specs.Lists.{count}
 use Rattle.rates.specs.declared.Kind.{Kind}
 use Rattle.rates.specs.declared.Contract.{Contract}
 use Rattle.rates.specs.declared.Bill.{Bill}
-use Rattle.rates.specs.Rates.{rate, cap, amount}
+use Rattle.rates.specs.Amounts.{rate, amount, cap}
 use Rattle.model.specs.Codes.{isFlexible}
 use Rattle.model.specs.ContractNumbers.{numbersOfContract, fuelIn, kindIn, priceFixDayIn, entryDayIn, classIn, effectiveDayIn}
 use Rattle.model.specs.Contracts.{contractAt, contractOf, isOpen}
@@ -52,6 +52,10 @@ badSpan first last = not (leb firstSchemeDay first && (leb first last && leb las
 unfoldable pub badAmounts : Contract → Request → Bool
 badAmounts k q = ltb mostKwhGiven (q .kwh) || (ltb highestPrice (q .supply) || (ltb highestPrice (q .wap) || (not (isFlexible (k .kind)) && not (eqb (q .wap) 0))))
 
+-- 14: the two shares exceed kWh
+abbrev pub badShares : (kwh etii qhs : ℕ) → Bool
+badShares kwh etii qhs = ltb kwh (etii + qhs)
+
 -- 11: the book's price needed is 0
 unfoldable pub noPrice : Kind → (reference : ℕ) → Bool
 noPrice kind reference = not (isFlexible kind) && eqb reference 0
@@ -60,13 +64,14 @@ noPrice kind reference = not (isFlexible kind) && eqb reference 0
 unfoldable pub openTests : View → (contract : ℕ) → List Test
 openTests v c = (4 if badNumber c) ∷ (5 if not (isOpen (v .contracts) c)) ∷ []
 
--- 3 to 8, of bill and rebill
+-- 3 to 8, and 14 after it, of bill and rebill
 unfoldable pub requestTests : View → Request → (book : List ℕ) → List Test
 requestTests v q book =
     (3 if badBook book)
     ∷ openTests v (q .contract)
     ++ ((7 if badSpan (q .first) (q .last))
     ∷ (8 if badAmounts (contractAt (v .contracts) (q .contract)) q)
+    ∷ (14 if badShares (q .kwh) (q .etii) (q .qhs))
     ∷ [])
 
 -- 9 to 12, of the bill that a request makes: its row is new (bill), or takes the place of one (rebill)
@@ -118,11 +123,12 @@ contractRanges t v = every (contractTests t v)
 unfoldable pub contractOk : (territory : ℕ) → Contract → Bool
 contractOk t k = contractRanges t (numbersOfContract k)
 
--- a held row: its days, kWh, S and R, R 0 only for flexible
+-- a held row: its days, kWh, shares that don't exceed it, S and R, R 0 only for flexible
 abbrev pub billTests : Contract → Bill → List Bool
 billTests k b =
     not (badSpan (b .first) (b .last))
     ∷ leb (b .kwh) mostKwhStored
+    ∷ not (badShares (b .kwh) (b .etii) (b .qhs))
     ∷ leb (b .supply) highestPrice
     ∷ leb (b .reference) highestPrice
     ∷ not (noPrice (k .kind) (b .reference))
@@ -131,9 +137,5 @@ billTests k b =
 unfoldable pub billOk : Contract → Bill → Bool
 billOk k b = every (billTests k b)
 
--- kWh times the cap of the bill's class
-unfoldable pub most : Contract → Bill → ℕ
-most k b = b .kwh * cap k b
-
 abbrev pub presentRules : Rules
-presentRules = record { contractLimit = contractCount; tests = tests; rate = rate; amount = amount; most = most; contractOk = contractOk; billOk = billOk }
+presentRules = record { contractLimit = contractCount; tests = tests; rate = rate; amount = amount; cap = cap; contractOk = contractOk; billOk = billOk }

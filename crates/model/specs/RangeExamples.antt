@@ -15,32 +15,40 @@ pub record HeldBill : Type 0 where
   pub first : ℕ
   pub last : ℕ
   pub kwh : ℕ
+  pub etii : ℕ
+  pub qhs : ℕ
   pub reference : ℕ
   pub supply : ℕ
   pub kept : Bool
 
-abbrev pub heldBill : Kind → (first last kwh reference supply : ℕ) → Bool → HeldBill
-heldBill kind first last kwh reference supply kept =
-    record { kind = kind; first = first; last = last; kwh = kwh; reference = reference; supply = supply; kept = kept }
+abbrev pub heldBill : Kind → (first last kwh etii qhs reference supply : ℕ) → Bool → HeldBill
+heldBill kind first last kwh etii qhs reference supply kept =
+    record { kind = kind; first = first; last = last; kwh = kwh; etii = etii; qhs = qhs; reference = reference; supply = supply; kept = kept }
 
--- "486 ≤ first ≤ last ≤ 851", kWh at most 100,000,000, R and S at most 999,999, "R 0 only for flexible"
+-- "486 ≤ first ≤ last ≤ 851", kWh at most 100,000,000, R and S at most 999,999, "R 0 only for flexible"; "A well-formed
+-- row's shares don't exceed its kWh"
 unfoldable pub heldBills : List HeldBill
 heldBills =
-    heldBill (Fixed 0 0) 486 851 100000000 999999 999999 true
-    ∷ heldBill (Fixed 0 0) 485 851 100000000 999999 999999 false
-    ∷ heldBill (Fixed 0 0) 486 852 100000000 999999 999999 false
-    ∷ heldBill (Fixed 0 0) 500 499 100000000 999999 999999 false
-    ∷ heldBill (Fixed 0 0) 486 851 100000001 999999 999999 false
-    ∷ heldBill (Fixed 0 0) 486 851 100000000 1000000 999999 false
-    ∷ heldBill (Fixed 0 0) 486 851 100000000 999999 1000000 false
-    ∷ heldBill (Fixed 0 0) 486 851 0 0 0 false
-    ∷ heldBill Flexible 486 851 0 0 0 true
+    heldBill (Fixed 0 0) 486 851 100000000 0 0 999999 999999 true
+    ∷ heldBill (Fixed 0 0) 485 851 100000000 0 0 999999 999999 false
+    ∷ heldBill (Fixed 0 0) 486 852 100000000 0 0 999999 999999 false
+    ∷ heldBill (Fixed 0 0) 500 499 100000000 0 0 999999 999999 false
+    ∷ heldBill (Fixed 0 0) 486 851 100000001 0 0 999999 999999 false
+    ∷ heldBill (Fixed 0 0) 486 851 100000000 0 0 1000000 999999 false
+    ∷ heldBill (Fixed 0 0) 486 851 100000000 0 0 999999 1000000 false
+    ∷ heldBill (Fixed 0 0) 486 851 0 0 0 0 0 false
+    ∷ heldBill Flexible 486 851 0 0 0 0 0 true
+    ∷ heldBill Flexible 486 851 100 100 0 0 0 true
+    ∷ heldBill Flexible 486 851 100 60 40 0 0 true
+    ∷ heldBill Flexible 486 851 100 101 0 0 0 false
+    ∷ heldBill Flexible 486 851 100 60 41 0 0 false
+    ∷ heldBill Flexible 486 851 100 0 134217727 0 0 false
     ∷ []
 
 unfoldable pub keepsRanges : HeldBill → Bool
 keepsRanges e = billOk
     (record { fuel = Electricity; kind = e .kind; certificate = None })
-    (record { contract = 0; first = e .first; last = e .last; kwh = e .kwh; reference = e .reference; supply = e .supply })
+    (record { contract = 0; first = e .first; last = e .last; kwh = e .kwh; etii = e .etii; qhs = e .qhs; reference = e .reference; supply = e .supply })
 
 -- the numbers of an open contract of Great Britain: fuel, kind, price-fix day, entry day, class, effective day
 unfoldable pub contractsInRange : List (List ℕ)

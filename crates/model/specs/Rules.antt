@@ -14,10 +14,10 @@ pub record Rules : Type 0 where
   pub contractLimit : ℕ
   -- the tests that can turn a call of a history down, in checking order
   pub tests : View → CallWithBook → List Test
-  -- a bill's rate, its part of due, and the most that the part can be, under its contract, in ticks
+  -- the rate that a bill answers, its part of due, and its cap, under its contract, in ticks
   pub rate : Contract → Bill → ℕ
   pub amount : Contract → Bill → ℕ
-  pub most : Contract → Bill → ℕ
+  pub cap : Contract → Bill → ℕ
   -- the ranges that an open contract and a held row keep
   pub contractOk : (territory : ℕ) → Contract → Bool
   pub billOk : Contract → Bill → Bool

@@ -1,4 +1,4 @@
--- Document 01, "The program and one run": the run's ten calls as a history of a Great Britain ledger, and its ten answers. Assumes nothing.
+-- Document 01, "The program and one run", with both shares given as 0: the run's ten calls as a history of a Great Britain ledger, and its ten answers. Assumes nothing.
 use mathlib.Core.Path.{_≡_}
 use mathlib.Core.List.{List, [], _∷_, map}
 use Prim.Native.Nat.{ℕ}
@@ -20,15 +20,15 @@ zeroBook = replicate bookLength 0
 unfoldable pub runCalls : List CallWithBook
 runCalls = map (λ c. c with zeroBook) (
     Call.Open 0 0 2 0 0
-    ∷ Call.Bill (requestOf 0 486 515 1000 67030 31980)
+    ∷ Call.Bill (requestOf 0 486 515 1000 67030 31980 0 0)
     ∷ Call.Claim
     ∷ Call.Cert 0 1 486
     ∷ Call.Claim
-    ∷ Call.Rebill (requestOf 0 486 515 901 67030 31980)
+    ∷ Call.Rebill (requestOf 0 486 515 901 67030 31980 0 0)
     ∷ Call.Claim
     ∷ Call.Cancel 0 486
     ∷ Call.Total
-    ∷ Call.Bill (requestOf 64 486 515 1 1 1)
+    ∷ Call.Bill (requestOf 64 486 515 1 1 1 0 0)
     ∷ [])
 
 unfoldable pub runAnswers : List Answer

@@ -7,7 +7,7 @@ pub struct Row {
     pub amount: u64,
 }
 
-// The numbers of a bill or rebill.
+// The numbers of a bill or rebill, the last two the kWh in the ETII share and in the QHS share.
 pub struct Request {
     pub contract: u32,
     pub first: u32,
@@ -15,6 +15,8 @@ pub struct Request {
     pub kwh: u32,
     pub supply: u32,
     pub wap: u32,
+    pub etii: u32,
+    pub qhs: u32,
 }
 
 // A call of a history, with its numbers.

@@ -3,3 +3,4 @@ pub mod Parts
 pub mod TwelveRates
 pub mod RateExamples
 pub mod WithinCaps
+pub mod SharesRated

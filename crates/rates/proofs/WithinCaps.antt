@@ -1,10 +1,16 @@
--- A bill's rate is at most its class's cap, and its amount has fewer than 50 bits within the paper's ranges. Assumes nothing.
-use Prim.Native.Nat.{ℕ, _*_, _^_, _<_, _≤_}
+-- A class's rate is at most its cap, and so is a bill's amount over its shares; within the paper's ranges it fits 50 bits. Assumes
+-- nothing.
+use mathlib.Core.Path.{_≡_}
+use mathlib.Core.Bool.{Bool, true, false, cond}
+use mathlib.Core.List.{[], _∷_}
+use Prim.Native.Nat.{ℕ, _+_, _*_, _^_, _<_, _≤_}
 use native.Mathlib.Omega.{arith}
-use native.Mathlib.Nat.{mul-le-mul, mul-le-mul-left}
+use native.Mathlib.Nat.{mul-le-mul-left}
 use lib.IntN.{pos, _-ℤ_}
 use Rattle.limits.specs.Limits.{highestPrice, mostKwhStored}
+use Rattle.basics.specs.Lists.{total}
 use Rattle.basics.specs.Integers.{atLeastZero}
+use Rattle.basics.proofs.Lists.{total-le, total-times}
 use Rattle.basics.proofs.Integers.{difference-at-least-zero}
 use Rattle.rates.specs.declared.Fuel.{Fuel}
 use Rattle.rates.specs.declared.Fuel.the-variants.{Electricity, Gas}
@@ -14,7 +20,8 @@ use Rattle.rates.specs.declared.Prices.the-variants.{Limited, Unlimited}
 use Rattle.rates.specs.declared.Contract.{Contract}
 use Rattle.rates.specs.declared.Bill.{Bill}
 use Rattle.rates.specs.Prices.{pricesOf, minimumOf}
-use Rattle.rates.specs.Rates.{part, partOf, classRate, classCap, classOf, rate, cap, amount}
+use Rattle.rates.specs.Rates.{part, partOf, classRate, classCap, classOf}
+use Rattle.rates.specs.Amounts.{Share, share, hasShares, threeShares, shares, shareAmount, amount, shareCap, cap, answeredClass, rate, Rateable}
 use Rattle.rates.proofs.Parts.{part-limited, part-unlimited}
 
 -- a part is at most the maximum discount, or of QHS at most S − QHS minimum
@@ -54,23 +61,36 @@ class-cap-low Gas Etii S h = omega arith
 class-cap-low fuel QhsOld S h = held-le (minimumOf (pricesOf fuel QhsOld)) S h
 class-cap-low fuel QhsNew S h = held-le (minimumOf (pricesOf fuel QhsNew)) S h
 
--- rate ≤ cap
-pub rate-capped : (contract : Contract) (bill : Bill) → rate contract bill ≤ cap contract bill
-unfolding rate cap
-rate-capped contract bill = class-rate-capped (contract .fuel) (classOf contract (bill .first)) (bill .reference) (bill .supply)
+-- the rate of a class within the paper's ranges
+pub class-rate-low : (fuel : Fuel) (class : Class) (R S : ℕ) → S ≤ highestPrice → classRate fuel class R S ≤ highestRate
+class-rate-low fuel class R S h = omega (arith, class-rate-capped fuel class R S, class-cap-low fuel class S h)
 
-pub amount-capped : (contract : Contract) (bill : Bill) → amount contract bill ≤ bill .kwh * cap contract bill
-unfolding amount
-amount-capped contract bill = mul-le-mul-left (bill .kwh) (rate-capped contract bill)
-
+-- the rate that a bill answers
 pub rate-low : (contract : Contract) (bill : Bill) → bill .supply ≤ highestPrice → rate contract bill ≤ highestRate
-unfolding cap
-rate-low contract bill h = omega (arith, rate-capped contract bill, class-cap-low (contract .fuel) (classOf contract (bill .first)) (bill .supply) h)
+unfolding rate
+rate-low contract bill h = class-rate-low (contract .fuel) (answeredClass contract bill) (bill .reference) (bill .supply) h
 
--- within the paper's ranges
-pub amount-low : (contract : Contract) (bill : Bill) → bill .kwh ≤ mostKwhStored → bill .supply ≤ highestPrice → amount contract bill ≤ highestAmount
-unfolding amount
-amount-low contract bill h k = let m : bill .kwh * rate contract bill ≤ mostKwhStored * highestRate = mul-le-mul h (rate-low contract bill k) in omega arith
+-- a bill's shares have all of its kWh
+pub shares-whole : (contract : Contract) (bill : Bill) → bill .etii + bill .qhs ≤ bill .kwh → total (λ s. s .kwh) (shares contract bill) ≡ bill .kwh
+unfolding shares threeShares
+shares-whole contract bill h = go (hasShares bill)
+  where
+    go : (b : Bool) → total (λ s. s .kwh) (cond b (threeShares contract bill) (share (bill .kwh) (classOf contract (bill .first)) ∷ [])) ≡ bill .kwh
+    go true = omega arith
+    go false = omega arith
 
-pub amount-bits : (contract : Contract) (bill : Bill) → bill .kwh ≤ mostKwhStored → bill .supply ≤ highestPrice → amount contract bill < 2 ^ 50
-amount-bits contract bill h k = omega (arith, amount-low contract bill h k)
+pub amount-capped : (contract : Contract) (bill : Bill) → amount contract bill ≤ cap contract bill
+unfolding amount cap shareAmount shareCap
+amount-capped contract bill =
+    total-le _ _ (λ s. mul-le-mul-left (s .kwh) (class-rate-capped (contract .fuel) (s .class) (bill .reference) (bill .supply))) (shares contract bill)
+
+-- within the ranges of a row
+pub amount-low : (contract : Contract) (bill : Bill) → Rateable bill → amount contract bill ≤ highestAmount
+unfolding amount shareAmount
+amount-low contract bill ok =
+    let each : total (shareAmount contract bill) (shares contract bill) ≤ total (λ s. s .kwh * highestRate) (shares contract bill)
+        = total-le _ _ (λ s. mul-le-mul-left (s .kwh) (class-rate-low (contract .fuel) (s .class) (bill .reference) (bill .supply) (ok .supply))) (shares contract bill) in
+    omega (arith, each, total-times (λ s. s .kwh) highestRate (shares contract bill), shares-whole contract bill (ok .shares), ok .kwh)
+
+pub amount-bits : (contract : Contract) (bill : Bill) → Rateable bill → amount contract bill < 2 ^ 50
+amount-bits contract bill ok = omega (arith, amount-low contract bill ok)

@@ -9,7 +9,8 @@ use Rattle.rates.specs.declared.Kind.{Kind}
 use Rattle.rates.specs.declared.Kind.the-variants.{Fixed, Variable, Flexible, Index}
 use Rattle.rates.specs.declared.Certificate.{Certificate}
 use Rattle.rates.specs.declared.Certificate.the-variants.{None, Etii, Qhs}
-use Rattle.rates.specs.Rates.{classRate, qhsClass, classCap, cap}
+use Rattle.rates.specs.Rates.{classRate, qhsClass, classCap}
+use Rattle.rates.specs.Amounts.{cap}
 use Rattle.rates.specs.TwelveRates.{Example, example, contractIn, billIn, rated}
 
 -- the examples have the rates given
@@ -18,7 +19,7 @@ RatesGiven es = map rated es ≡ map (λ e. e .ticks) es
 
 -- ---- caps: each is reached by a bill, so that none can be raised or lowered
 
--- the cap of an example's bill
+-- the cap of an example's bill, of 1 kWh
 unfoldable pub capIn : Example → ℕ
 capIn e = cap (contractIn e) (billIn e)
 

@@ -1,10 +1,10 @@
--- Document 01, "Prices per kWh": parts, rates, a bill's class and a class's cap. R is the reference wholesale price and S the supply
+-- Document 01, "Prices per kWh": parts, the rates of the classes, a bill's class and a class's cap. R is the reference wholesale price and S the supply
 -- price, in mils; rates and caps are in ticks (a tick is a ten-thousandth of a penny). Assumes nothing.
 use mathlib.Core.Bool.{Bool, false, not, cond, _&&_}
-use Prim.Native.Nat.{ℕ, _+_, _*_, _≤_}
+use Prim.Native.Nat.{ℕ, _+_, _*_}
 use lib.Dec.{leb, ltb}
 use lib.IntN.{ℤ, pos, _-ℤ_}
-use Rattle.limits.specs.Limits.{newMinimumDay, mostKwhStored, highestPrice}
+use Rattle.limits.specs.Limits.{newMinimumDay}
 use Rattle.basics.specs.Integers.{minℤ, atLeastZero}
 use Rattle.rates.specs.declared.Fuel.{Fuel}
 use Rattle.rates.specs.declared.Fuel.the-variants.{Electricity, Gas}
@@ -14,10 +14,8 @@ use Rattle.rates.specs.declared.Certificate.{Certificate}
 use Rattle.rates.specs.declared.Certificate.the-variants.{None}
 use Rattle.rates.specs.declared.Certificate.the-variants as certificate
 use Rattle.rates.specs.declared.Contract.{Contract}
-use Rattle.rates.specs.declared.Bill.{Bill}
 use Rattle.rates.specs.declared.Class.{Class}
 use Rattle.rates.specs.declared.Class.the-variants.{Baseline, Etii, QhsOld, QhsNew}
-use Rattle.rates.specs.declared.Rated.{Rated}
 use Rattle.rates.specs.declared.Prices.{Prices}
 use Rattle.rates.specs.declared.Prices.the-variants.{Limited, Unlimited}
 use Rattle.rates.specs.Prices.{pricesOf, minimumOf}
@@ -76,24 +74,3 @@ classCap fuel Baseline S = baselineCap fuel
 classCap fuel Etii S = etiiCap fuel
 classCap fuel QhsOld S = 10 * atLeastZero (pos S -ℤ pos (minimumOf (pricesOf fuel QhsOld)))
 classCap fuel QhsNew S = 10 * atLeastZero (pos S -ℤ pos (minimumOf (pricesOf fuel QhsNew)))
-
--- a bill's rate under its contract, from its first day, R and S
-unfoldable pub rate : Contract → Bill → ℕ
-rate contract bill = classRate (contract .fuel) (classOf contract (bill .first)) (bill .reference) (bill .supply)
-
--- the cap of a bill's class
-unfoldable pub cap : Contract → Bill → ℕ
-cap contract bill = classCap (contract .fuel) (classOf contract (bill .first)) (bill .supply)
-
--- a bill's amount: kWh times the rate
-unfoldable pub amount : Contract → Bill → ℕ
-amount contract bill = bill .kwh * rate contract bill
-
--- a bill whose kWh and S keep the ranges of a row, so that its amount fits
-pub record Rateable (bill : Bill) : Type 0 where
-  pub kwh : bill .kwh ≤ mostKwhStored
-  pub supply : bill .supply ≤ highestPrice
-
--- both
-abbrev pub ratedOf : Contract → Bill → Rated
-ratedOf contract bill = record { rate = rate contract bill; amount = amount contract bill }

@@ -1,4 +1,5 @@
-// The discount per kWh of a bill: contracts, certificates, classes, parts, rates and amounts.
+// The discount per kWh: contracts, certificates, bills, classes, parts and the rates of the classes.
+pub mod amounts;
 mod fuels;
 
 use fuels::Electricity;
@@ -7,7 +8,7 @@ use limits::NEW_MINIMUM_DAY;
 ghost use mathlib.Core.Path.{_≡_};
 ghost use Prim.Native.Nat.{_-_, _≤_, min};
 ghost use Rattle.rates.specs.Prices.{pricesOf};
-ghost use Rattle.rates.specs.Rates.{part, partOf, classRate, enteredEarly, qhsClass, classOf, rate, amount, Rateable, ratedOf};
+ghost use Rattle.rates.specs.Rates.{part, partOf, classRate, enteredEarly, qhsClass, classOf};
 
 // Fuel: 0 electricity, 1 gas.
 pub enum Fuel {
@@ -36,12 +37,15 @@ pub struct Contract {
     pub certificate: Certificate,
 }
 
-// A bill: its contract's number, first and last day, kWh, and the reference and supply prices R and S in mils.
+// A bill: its contract's number, first and last day, kWh, of these the kWh in the ETII share and in the QHS share, and the reference and
+// supply prices R and S in mils.
 pub struct Bill {
     pub contract: u32,
     pub first: u32,
     pub last: u32,
     pub kwh: u32,
+    pub etii: u32,
+    pub qhs: u32,
     pub reference: u32,
     pub supply: u32,
 }
@@ -181,41 +185,4 @@ pub fn class_of(contract: Contract, first: u32) -> Class
             }
         }
     }
-}
-
-// A bill's rate under its contract, in ticks.
-pub fn rate(contract: Contract, bill: Bill) -> u64
-    ensures { λ r. ⌜ r ≡ rate contract bill ⌝ }
-{
-    let fuel = contract.fuel;
-    class_rate(
-        fuel,
-        class_of(contract, bill.first),
-        bill.reference,
-        bill.supply,
-    )
-}
-
-// A bill's rate and amount, in ticks.
-pub struct Rated {
-    pub rate: u64,
-    pub amount: u64,
-}
-
-// A bill's rate and amount under its contract: the amount is kWh times the rate.
-pub fn rate_and_amount(contract: Contract, bill: Bill) -> Rated
-    requires { ⌜ Rateable bill ⌝ }
-    ensures { λ r. ⌜ r ≡ ratedOf contract bill ⌝ }
-{
-    let rate = rate(contract, bill);
-    let amount = bill.kwh as u64 * rate;
-    Rated { rate, amount }
-}
-
-// A bill's amount under its contract.
-pub fn amount(contract: Contract, bill: Bill) -> u64
-    requires { ⌜ Rateable bill ⌝ }
-    ensures { λ r. ⌜ r ≡ amount contract bill ⌝ }
-{
-    rate_and_amount(contract, bill).amount
 }

@@ -100,6 +100,8 @@ pub fn bill_under(contract: Contract, request: Request, book: &[u32]) -> Bill
         first: request.first,
         last: request.last,
         kwh: request.kwh,
+        etii: request.etii,
+        qhs: request.qhs,
         reference: reference(contract, request.first, request.wap, book),
         supply: request.supply,
     }

@@ -11,7 +11,7 @@ use model::Request;
 use rates::Bill;
 use rates::Contract;
 ghost use mathlib.Core.Path.{_≡_};
-ghost use Rattle.model.specs.PresentRules.{badKind, badClass, badDays, badEffective, badSpan, badAmounts, contractRanges, billOk};
+ghost use Rattle.model.specs.PresentRules.{badKind, badClass, badDays, badEffective, badSpan, badAmounts, badShares, contractRanges, billOk};
 ghost use mathlib.Core.List.{[], _∷_};
 
 // A fuel or kind code has no meaning, or kind 3 is given outside its place.
@@ -111,6 +111,13 @@ pub fn bad_amounts(contract: Contract, request: Request) -> bool
     request.wap != 0
 }
 
+// The two shares exceed kWh: their sum is taken in 64 bits.
+pub fn bad_shares(kwh: u32, etii: u32, qhs: u32) -> bool
+    ensures { λ r. ⌜ r ≡ badShares kwh etii qhs ⌝ }
+{
+    (kwh as u64) < etii as u64 + qhs as u64
+}
+
 // The numbers of an open contract keep the ranges.
 pub fn contract_ranges(
     territory: u32,
@@ -143,6 +150,9 @@ pub fn bill_ok(contract: Contract, bill: Bill) -> bool
         return false;
     }
     if MOST_KWH_STORED < bill.kwh {
+        return false;
+    }
+    if bad_shares(bill.kwh, bill.etii, bill.qhs) {
         return false;
     }
     if HIGHEST_PRICE < bill.supply {

@@ -14,7 +14,7 @@ use Rattle.model.specs.Calls.{replyOf, replyWithoutNumbers, CallWithBook, _with
 use Rattle.model.specs.Ledger.{fresh}
 use Rattle.model.specs.Rules.{unlessRefused}
 use Rattle.model.specs.History.{run, replies, sheetAfter, stateAfter, answersTo}
-use Rattle.model.specs.BalanceByRates.{BalancedByRates}
+use Rattle.model.specs.Balance.{Balanced}
 use Rattle.model.proofs.Refusals.{clear}
 use Rattle.layout.specs.Offsets.{ledgerLength}
 use Rattle.layout.specs.Present.{rules, bytes, machine}
@@ -118,7 +118,7 @@ every-session-balances input =
       answers = a .answers;
       balanced =
           subst
-          (λ (b : List ℕ). BalancedByRates (sheetAfter rules (l .territory) (l .history)) (answersTo machine (l .territory) (l .history)) (machine .answer b (Call.Total with [])) (machine .facts b .rows))
+          (λ (b : List ℕ). Balanced rules (sheetAfter rules (l .territory) (l .history)) (answersTo machine (l .territory) (l .history)) (machine .answer b (Call.Total with [])) (machine .facts b .rows))
           (sym (a .bytes))
           (demand-three .balances (l .territory) (a .territory) (l .history));
     }

@@ -11,7 +11,7 @@ use Rattle.model.specs.declared.Reply.{Reply}
 use Rattle.model.specs.declared.Call.{Call}
 use Rattle.model.specs.Calls.{replyOf, CallWithBook, _with_}
 use Rattle.model.specs.History.{run, sheetAfter, stateAfter, answersTo}
-use Rattle.model.specs.BalanceByRates.{BalancedByRates}
+use Rattle.model.specs.Balance.{Balanced}
 use Rattle.layout.specs.Present.{rules, machine}
 use Rattle.session.specs.Replies.{State, initial, next}
 use Rattle.session.specs.Transcript.{exchanges, inputCommands}
@@ -64,7 +64,7 @@ pub record HistoryBalances (log : Log) (ledger : List ℕ) : Type 0 where
   -- the lines printed are those of the history's answers
   pub answers : log .replies ≡ map replyOf (answersTo machine (log .territory) (log .history))
   -- demand 3, of that history: with the answers printed, and the answer to a total called next
-  pub balanced : BalancedByRates (sheetAfter rules (log .territory) (log .history)) (answersTo machine (log .territory) (log .history)) (machine .answer ledger (Call.Total with [])) (machine .facts ledger .rows)
+  pub balanced : Balanced rules (sheetAfter rules (log .territory) (log .history)) (answersTo machine (log .territory) (log .history)) (machine .answer ledger (Call.Total with [])) (machine .facts ledger .rows)
 
 -- for every input
 abbrev pub EverySessionBalances : Type 0

@@ -30,8 +30,8 @@ abbrev pub forms : List Form
 forms =
     form "start" 1 Command.Start ∷
     form "open" 5 (λ c fuel kind fix entry. Command.OnLedger (Call.Open c fuel kind fix entry)) ∷
-    form "bill" 6 (λ c first last kwh supply wap. Command.OnLedger (Call.Bill (requestOf c first last kwh supply wap))) ∷
-    form "rebill" 6 (λ c first last kwh supply wap. Command.OnLedger (Call.Rebill (requestOf c first last kwh supply wap))) ∷
+    form "bill" 8 (λ c first last kwh supply wap etii qhs. Command.OnLedger (Call.Bill (requestOf c first last kwh supply wap etii qhs))) ∷
+    form "rebill" 8 (λ c first last kwh supply wap etii qhs. Command.OnLedger (Call.Rebill (requestOf c first last kwh supply wap etii qhs))) ∷
     form "cert" 3 (λ c class effective. Command.OnLedger (Call.Cert c class effective)) ∷
     form "cancel" 2 (λ c first. Command.OnLedger (Call.Cancel c first)) ∷
     form "claim" 0 (Command.OnLedger Call.Claim) ∷
@@ -44,7 +44,7 @@ forms =
 
 -- no call takes more numbers
 abbrev pub mostNumbers : ℕ
-mostNumbers = 6
+mostNumbers = 8
 
 -- no line that can be read is shorter
 abbrev pub shortestLine : ℕ

@@ -22,8 +22,8 @@ unfoldable pub readable : List LineExample
 readable =
     ("start 1" reads Command.Start 1)
     ∷ ("open 10 11 12 13 14" reads Command.OnLedger (Call.Open 10 11 12 13 14))
-    ∷ ("bill 10 11 12 13 14 15" reads Command.OnLedger (Call.Bill (requestOf 10 11 12 13 14 15)))
-    ∷ ("rebill 10 11 12 13 14 15" reads Command.OnLedger (Call.Rebill (requestOf 10 11 12 13 14 15)))
+    ∷ ("bill 10 11 12 13 14 15 16 17" reads Command.OnLedger (Call.Bill (requestOf 10 11 12 13 14 15 16 17)))
+    ∷ ("rebill 10 11 12 13 14 15 16 17" reads Command.OnLedger (Call.Rebill (requestOf 10 11 12 13 14 15 16 17)))
     ∷ ("cert 10 11 12" reads Command.OnLedger (Call.Cert 10 11 12))
     ∷ ("cancel 10 11" reads Command.OnLedger (Call.Cancel 10 11))
     ∷ ("claim" reads Command.OnLedger Call.Claim)
@@ -39,7 +39,7 @@ readable =
 -- 4,294,967,295, what is no number
 unfoldable pub unreadable : List String
 unreadable =
-    "" ∷ "bills" ∷ "Total" ∷ "report" ∷ "total 1" ∷ "cancel 10 11 12" ∷ "date  1" ∷ " date 1" ∷ "date 1 " ∷ "date 01" ∷ "date 10000000000"
+    "" ∷ "bills" ∷ "Total" ∷ "report" ∷ "total 1" ∷ "cancel 10 11 12" ∷ "bill 10 11 12 13 14 15" ∷ "bill 10 11 12 13 14 15 16 17 18" ∷ "date  1" ∷ " date 1" ∷ "date 1 " ∷ "date 01" ∷ "date 10000000000"
     ∷ "date 4294967296" ∷ "date -1" ∷ "date +1" ∷ "date 1x" ∷ []
 
 pub record LinesRead : Type 0 where

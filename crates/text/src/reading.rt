@@ -40,10 +40,10 @@ pub enum Parsed {
 const NAMES: [u8; 68] = *b"start open bill rebill cert cancel claim report total day date price";
 
 // How many numbers the call at each place takes.
-const COUNTS: [usize; 12] = [1, 5, 6, 6, 3, 2, 0, 1, 0, 3, 1, 2];
+const COUNTS: [usize; 12] = [1, 5, 8, 8, 3, 2, 0, 1, 0, 3, 1, 2];
 
 // No call takes more numbers.
-const MOST_NUMBERS: usize = 6;
+const MOST_NUMBERS: usize = 8;
 
 // No line that can be read is shorter.
 pub const SHORTEST_LINE: usize = 5;
@@ -111,7 +111,7 @@ fn count_at(place: usize) -> usize
 
 // The request of a bill or rebill, by its numbers.
 fn request(n: [u32; MOST_NUMBERS]) -> Request
-    ensures { λ r. ⌜ r ≡ requestOf (getD n 0 0) (getD n 1 0) (getD n 2 0) (getD n 3 0) (getD n 4 0) (getD n 5 0) ⌝ }
+    ensures { λ r. ⌜ r ≡ requestOf (getD n 0 0) (getD n 1 0) (getD n 2 0) (getD n 3 0) (getD n 4 0) (getD n 5 0) (getD n 6 0) (getD n 7 0) ⌝ }
 {
     Request {
         contract: n[0],
@@ -120,6 +120,8 @@ fn request(n: [u32; MOST_NUMBERS]) -> Request
         kwh: n[3],
         supply: n[4],
         wap: n[5],
+        etii: n[6],
+        qhs: n[7],
     }
 }
 

@@ -1,4 +1,4 @@
--- `requested_bill` gives the first of refusals 3 to 8 that fits, or the bill.
+-- `requested_bill` gives the first of refusals 3 to 8 and 14 that fits, or the bill.
 use native.Mathlib.Omega.{arith}
 use Rattle.model.specs.PresentRules.{requestTests}
 use Rattle.layout.proofs.Present.{formed-length}
@@ -32,7 +32,11 @@ returns-4 c = requested-refused _ _ _ _ (search request-refusals depth 20) (λ z
 
 returns-5 : tie.Need-returns-5
 unfolding requestTests
-returns-5 c = requested-bill _ _ _ _ _ (search request-refusals depth 20) (search contract-found) (search needs)
+returns-5 c = requested-refused _ _ _ _ (search request-refusals depth 20) (λ z. omega arith)
+
+returns-6 : tie.Need-returns-6
+unfolding requestTests
+returns-6 c = requested-bill _ _ _ _ _ (search request-refusals depth 20) (search contract-found) (search needs)
 
 pub requested-bill-spec : {M : Type 1} → statement M
 requested-bill-spec =
@@ -49,4 +53,6 @@ requested-bill-spec =
     (λ c κs. search needs)
     returns-4
     (λ c κs. search needs)
-    returns-5)
+    returns-5
+    (λ c κs. search needs)
+    returns-6)

@@ -4,8 +4,8 @@ use borrow.Author.Needs.{needs}
 use Rattle.bill_calls.proofs.rows.add_row.Statement.{statement}
 use Rattle.bill_calls.proofs.rows.add_row.Tie as tie
 
-rate-and-amount-requires : tie.Need-rate-and-amount-requires
-rate-and-amount-requires c κs = search row-rateable
+amount-requires : tie.Need-amount-requires
+amount-requires c κs = search row-rateable
 
 insert-row-requires : tie.Need-insert-row-requires
 insert-row-requires c κs = search insertable
@@ -14,4 +14,4 @@ returns : tie.Need-returns
 returns c = search row-added
 
 pub add-row-spec : {M : Type 1} → statement M
-add-row-spec = tie.close (tie.spec rate-and-amount-requires insert-row-requires (λ c. search needs) returns)
+add-row-spec = tie.close (tie.spec amount-requires insert-row-requires (λ c κs. search needs) (λ c. search needs) returns)

@@ -5,8 +5,8 @@ use borrow.Author.Needs.{needs}
 use Rattle.bill_calls.proofs.rows.replace_row.Statement.{statement}
 use Rattle.bill_calls.proofs.rows.replace_row.Tie as tie
 
-rate-and-amount-requires : tie.Need-rate-and-amount-requires
-rate-and-amount-requires c κs = search row-rateable
+amount-requires : tie.Need-amount-requires
+amount-requires c κs = search row-rateable
 
 row-at-requires : tie.Need-row-at-requires
 row-at-requires c κs = search held-needs
@@ -22,4 +22,4 @@ returns c = let change = signed-read _ _ (record { sfits = c .difference .ok }) 
 
 pub replace-row-spec : {M : Type 1} → statement M
 replace-row-spec =
-    tie.close (tie.spec rate-and-amount-requires row-at-requires replace-row-requires difference-requires (λ c. search needs) returns)
+    tie.close (tie.spec amount-requires row-at-requires replace-row-requires (λ c κs. search needs) difference-requires (λ c. search needs) returns)

@@ -13,6 +13,8 @@ bill-ok-spec =
     (λ c κs. search needs)
     (λ c. search chain depth 20 fits 20000)
     (λ c. search chain depth 20 fits 20000)
+    (λ c κs. search needs)
+    (λ c. search chain depth 20 fits 20000)
     (λ c. search chain depth 20 fits 20000)
     (λ c. search chain depth 20 fits 20000)
     (λ c κs. search needs)

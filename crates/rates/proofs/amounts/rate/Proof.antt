@@ -1,8 +1,8 @@
--- `rate` is the rate of the bill's class.
-use Rattle.rates.specs.Rates.{rate}
+-- `rate` is the rate of the class that a bill answers.
+use Rattle.rates.specs.Amounts.{rate}
 use borrow.Author.Needs.{needs}
-use Rattle.rates.proofs.rate.Statement.{statement}
-use Rattle.rates.proofs.rate.Tie as tie
+use Rattle.rates.proofs.amounts.rate.Statement.{statement}
+use Rattle.rates.proofs.amounts.rate.Tie as tie
 
 returns : tie.Need-returns
 unfolding rate
