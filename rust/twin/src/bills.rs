@@ -1,11 +1,13 @@
-//! What bill and rebill share: the numbers given, their refusals and the row made of them
-//! (document 01, sections "Contracts and the price book" and "Turned down, in checking order").
+//! What bill and rebill have in common: the numbers given, their refusals and the row made of
+//! them (document 01, sections "Contracts and the price book" and "Turned down, in checking
+//! order"; document 02, paper 1).
 
 use crate::calendar::scheme_month;
 use crate::check::{span_ok, Checked, HIGHEST_PRICE, MOST_KWH};
 use crate::contracts::{Contract, Fuel, Kind};
 use crate::packed::Row;
-use crate::refusals::{BAD_BOOK, NO_PRICE, WRONG_DAY, WRONG_QUANTITY};
+use crate::rates::Bill;
+use crate::refusals::{BAD_BOOK, NO_PRICE, SHARES_EXCEED_KWH, WRONG_DAY, WRONG_QUANTITY};
 
 /// How many prices a book has.
 const BOOK_LENGTH: usize = 1_740;
@@ -22,7 +24,8 @@ const VARIABLE_GAS_AT: usize = 1_716;
 /// The book's entry at which the index prices begin.
 const INDEX_AT: usize = 1_728;
 
-/// The numbers of a bill or rebill: S and WAP in mils.
+/// The numbers of a bill or rebill: S and WAP in mils, and of the kWh those in the ETII share and
+/// in the QHS share.
 #[derive(Clone, Copy, Debug)]
 pub struct BillNumbers {
     pub contract: u32,
@@ -31,16 +34,12 @@ pub struct BillNumbers {
     pub kwh: u32,
     pub supply: u32,
     pub wap: u32,
-}
-
-/// A row with the rate of its amount.
-pub struct RatedRow {
-    pub row: Row,
-    pub rate: i64,
+    pub etii_share: u32,
+    pub qhs_share: u32,
 }
 
 impl BillNumbers {
-    /// The contract of a bill or rebill that none of the numbers 3 to 8 turns down.
+    /// The contract of a bill or rebill that none of the numbers 3 to 8 and 14 turns down.
     pub fn contract<'a>(&self, checked: &'a Checked, book: &[u32]) -> Result<&'a Contract, u32> {
         if !book_ok(book) {
             return Err(BAD_BOOK);
@@ -59,24 +58,26 @@ impl BillNumbers {
         {
             return Err(WRONG_QUANTITY);
         }
+        if u64::from(self.etii_share) + u64::from(self.qhs_share) > u64::from(self.kwh) {
+            return Err(SHARES_EXCEED_KWH);
+        }
         Ok(contract)
     }
 
     /// The row of the bill, or number 11 where the book has no price for it.
-    pub fn row(&self, contract: &Contract, book: &[u32]) -> Result<RatedRow, u32> {
-        let (kwh, supply) = (i64::from(self.kwh), i64::from(self.supply));
-        let reference = i64::from(self.reference(contract, book)?);
-        let rate = contract.rate(self.first, reference, supply);
-        let row = Row {
+    pub fn row(&self, contract: &Contract, book: &[u32]) -> Result<Row, u32> {
+        let bill = Bill {
             contract: self.contract,
             first: self.first,
             last: self.last,
-            kwh,
-            reference,
-            supply,
-            amount: kwh * rate,
+            kwh: i64::from(self.kwh),
+            etii_share: i64::from(self.etii_share),
+            qhs_share: i64::from(self.qhs_share),
+            reference: i64::from(self.reference(contract, book)?),
+            supply: i64::from(self.supply),
         };
-        Ok(RatedRow { row, rate })
+        let amount = contract.amount(&bill);
+        Ok(Row { bill, amount })
     }
 
     /// R: the weighted price of a flexible contract, or else the book's price.

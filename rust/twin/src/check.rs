@@ -1,5 +1,5 @@
-//! The well-formed check (document 01, section "The packed ledger, 18,760 bytes"): one pass
-//! over the contracts, and one over the rows.
+//! The well-formed check (document 01, section on the packed ledger; document 02, paper 1): one
+//! pass over the contracts, and one over the rows.
 
 use crate::contracts::{Contract, Kind, FIRST_SCHEME_DAY, LAST_DAY};
 use crate::packed::{
@@ -85,25 +85,30 @@ fn check_rows(slots: &[RowSlot], contracts: &Contracts) -> Option<(usize, i64)> 
     let mut least = (0, 0);
     for slot in slots.iter().take_while(|slot| Row::is_held(slot)) {
         let row = Row::unpack(slot);
-        let contract = contracts[row.contract as usize].as_ref()?;
-        if (row.contract, row.first) < least || !row_ok(contract, &row) {
+        let bill = &row.bill;
+        let contract = contracts[bill.contract as usize].as_ref()?;
+        if (bill.contract, bill.first) < least
+            || !Row::ends_in_zeros(slot)
+            || !row_ok(contract, &row)
+        {
             return None;
         }
-        least = (row.contract, row.last + 1);
+        least = (bill.contract, bill.last + 1);
         due += row.amount;
         held += 1;
     }
     all_zero(slots[held..].as_flattened()).then_some((held, due))
 }
 
-/// Whether a row keeps its ranges under its contract and has the amount of its rate.
-fn row_ok(contract: &Contract, row: &Row) -> bool {
-    span_ok(row.first, row.last)
-        && row.kwh <= MOST_KWH
-        && row.supply <= HIGHEST_PRICE
-        && row.reference <= HIGHEST_PRICE
-        && (row.reference != 0 || contract.kind == Kind::Flexible)
-        && row.amount == row.kwh * contract.rate(row.first, row.reference, row.supply)
+/// Whether a row keeps its ranges under its contract and has the amount of its bill.
+fn row_ok(contract: &Contract, Row { bill, amount }: &Row) -> bool {
+    span_ok(bill.first, bill.last)
+        && bill.kwh <= MOST_KWH
+        && bill.rest() >= 0
+        && bill.supply <= HIGHEST_PRICE
+        && bill.reference <= HIGHEST_PRICE
+        && (bill.reference != 0 || contract.kind == Kind::Flexible)
+        && *amount == contract.amount(bill)
 }
 
 /// Whether a bill may run from one day to the other.

@@ -1,5 +1,5 @@
-//! The calls of document 01 hand-written in Rust, on the same packed bytes: what the times of
-//! the proved calls are measured against.
+//! The calls of document 01, with the shares of document 02's paper 1, hand-written in Rust on
+//! the same packed bytes: what the times of the proved calls are measured against.
 //!
 //! Each call answers three numbers in document 01's order, unused ones 0, or the number that
 //! turns it down; it then changes no byte.
@@ -15,7 +15,6 @@ mod rows;
 
 pub use bills::BillNumbers;
 
-use bills::RatedRow;
 use check::{check, MOST_CLAIMS};
 use contracts::{Certificate, Contract};
 use packed::{
@@ -71,14 +70,15 @@ pub fn bill(ledger: &mut [u8], book: &[u32], numbers: BillNumbers) -> Result<[i6
     let checked = check(ledger)?;
     let contract = numbers.contract(&checked, book)?;
     let place = new_place(&row_slots(ledger)[..checked.held], numbers)?;
-    let RatedRow { row, rate } = numbers.row(contract, book)?;
+    let row = numbers.row(contract, book)?;
     if checked.held == ROW_COUNT {
         return Err(NO_ROOM);
     }
     let slots = row_slots_mut(ledger);
     slots.copy_within(place..checked.held, place + 1);
     slots[place] = row.pack();
-    Ok([row.reference, rate, row.amount])
+    let Row { bill, amount } = row;
+    Ok([bill.reference, contract.rate(&bill), amount])
 }
 
 /// rebill: puts a row in place of the one with that contract and first day; answers R, rate and
@@ -91,14 +91,15 @@ pub fn rebill(ledger: &mut [u8], book: &[u32], numbers: BillNumbers) -> Result<[
     if begins_within(held.get(place + 1), numbers) {
         return Err(SHARED_DAY);
     }
-    let RatedRow { row, rate } = numbers.row(contract, book)?;
+    let row = numbers.row(contract, book)?;
     let old = Row::unpack(&held[place]);
     held[place] = row.pack();
-    Ok([row.reference, rate, row.amount - old.amount])
+    let Row { bill, amount } = row;
+    Ok([bill.reference, contract.rate(&bill), amount - old.amount])
 }
 
-/// cert: another certificate in place of the contract's, and its rows re-rated; answers the net
-/// change and the count of rows whose amount changed.
+/// cert: another certificate in place of the contract's, and its rows without shares re-rated;
+/// answers the net change and the count of rows whose amount changed.
 pub fn cert(
     ledger: &mut [u8],
     contract: u32,
@@ -115,8 +116,10 @@ pub fn cert(
     let mut changed = 0;
     for slot in &mut held[places] {
         let row = Row::unpack(slot);
-        let rate = certified.rate(row.first, row.reference, row.supply);
-        let amount = row.kwh * rate;
+        if row.bill.has_shares() {
+            continue;
+        }
+        let amount = certified.amount(&row.bill);
         if amount != row.amount {
             *slot = Row { amount, ..row }.pack();
             change += amount - row.amount;
@@ -164,7 +167,7 @@ pub fn report(ledger: &[u8], contract: u32) -> Result<[i64; 3], u32> {
     let mut kwh = 0;
     let mut due = 0;
     for row in slots.iter().map(Row::unpack) {
-        kwh += row.kwh;
+        kwh += row.bill.kwh;
         due += row.amount;
     }
     Ok([slots.len() as i64, kwh, due])

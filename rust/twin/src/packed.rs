@@ -1,10 +1,11 @@
-//! The header, the contracts and the rows in their bytes (document 01, section "The packed
-//! ledger, 18,760 bytes").
+//! The header, the contracts and the rows in their bytes (document 01, section on the packed
+//! ledger, with the rows of document 02, paper 1).
 
 use crate::contracts::{Certificate, Contract, Fuel, Kind};
+use crate::rates::Bill;
 
 /// The length of a ledger in bytes.
-pub const LEDGER_LENGTH: usize = 18_760;
+pub const LEDGER_LENGTH: usize = 25_928;
 
 /// How many contracts a ledger has room for.
 pub const CONTRACT_COUNT: usize = 64;
@@ -22,10 +23,10 @@ const ROWS_AT: usize = 328;
 pub type ContractSlot = [u8; 5];
 
 /// The bytes of a row.
-pub type RowSlot = [u8; 18];
+pub type RowSlot = [u8; 25];
 
 /// The bytes of a row that isn't held.
-pub const UNHELD: RowSlot = [0; 18];
+pub const UNHELD: RowSlot = [0; 25];
 
 /// The contract slots of a ledger.
 pub fn contract_slots(ledger: &[u8]) -> &[ContractSlot] {
@@ -144,15 +145,10 @@ impl Contract {
     }
 }
 
-/// A held row.
+/// A held row: a bill that stands, with its amount in ticks.
 #[derive(Clone, Copy)]
 pub struct Row {
-    pub contract: u32,
-    pub first: u32,
-    pub last: u32,
-    pub kwh: i64,
-    pub reference: i64,
-    pub supply: i64,
+    pub bill: Bill,
     pub amount: i64,
 }
 
@@ -162,35 +158,50 @@ impl Row {
         slot[0] >> 7 == 1
     }
 
-    /// The row that a slot holds. The slot is read as three words that overlap, from bytes 0,
-    /// 8 and 10 on; R alone straddles the first two.
+    /// Whether the two bits after a slot's fields are zeros.
+    pub fn ends_in_zeros(slot: &RowSlot) -> bool {
+        slot[24] & 3 == 0
+    }
+
+    /// The row that a slot holds. The slot is read as four words that overlap, from bytes 0, 6,
+    /// 13 and 17 on, so that each field is in one of them.
     pub fn unpack(slot: &RowSlot) -> Row {
-        let (start, middle, end) = (word_at(slot, 0), word_at(slot, 8), word_at(slot, 10));
-        Row {
+        let (start, shares) = (word_at(slot, 0), word_at(slot, 6));
+        let (prices, end) = (word_at(slot, 13), word_at(slot, 17));
+        let bill = Bill {
             contract: short_field(start, 57, 6),
             first: short_field(start, 47, 10),
             last: short_field(start, 37, 10),
             kwh: field(start, 10, 27),
-            reference: field(start, 0, 10) << 10 | field(middle, 54, 10),
-            supply: field(middle, 34, 20),
-            amount: field(end, 0, 50),
+            etii_share: field(shares, 31, 27),
+            qhs_share: field(shares, 4, 27),
+            reference: field(prices, 40, 20),
+            supply: field(prices, 20, 20),
+        };
+        Row {
+            bill,
+            amount: field(end, 2, 50),
         }
     }
 
-    /// The slot that holds the row.
+    /// The slot that holds the row: three words and a byte. The ETII share straddles the first
+    /// two words, the amount the third and the byte.
     pub fn pack(&self) -> RowSlot {
+        let Row { bill, amount } = self;
         let start = 1 << 63
-            | u64::from(self.contract) << 57
-            | u64::from(self.first) << 47
-            | u64::from(self.last) << 37
-            | (self.kwh as u64) << 10
-            | (self.reference as u64) >> 10;
+            | u64::from(bill.contract) << 57
+            | u64::from(bill.first) << 47
+            | u64::from(bill.last) << 37
+            | (bill.kwh as u64) << 10
+            | (bill.etii_share as u64) >> 17;
         let middle =
-            (self.reference as u64) << 54 | (self.supply as u64) << 34 | (self.amount as u64) >> 16;
-        let mut slot = [0; 18];
+            (bill.etii_share as u64) << 47 | (bill.qhs_share as u64) << 20 | bill.reference as u64;
+        let end = (bill.supply as u64) << 44 | (*amount as u64) >> 6;
+        let mut slot = UNHELD;
         slot[..8].copy_from_slice(&start.to_be_bytes());
         slot[8..16].copy_from_slice(&middle.to_be_bytes());
-        slot[16..].copy_from_slice(&(self.amount as u16).to_be_bytes());
+        slot[16..24].copy_from_slice(&end.to_be_bytes());
+        slot[24] = (*amount as u8) << 2;
         slot
     }
 

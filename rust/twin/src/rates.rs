@@ -1,4 +1,4 @@
-//! The rates of bills (document 01, section "Prices per kWh").
+//! The rates and amounts of bills (document 01, section "Prices per kWh"; document 02, paper 1).
 
 use crate::contracts::{Certificate, Contract, Fuel, Kind};
 
@@ -33,19 +33,82 @@ static GAS: Prices = Prices {
     qhs_minimum_new: 6_500,
 };
 
+/// A bill: R and S in mils, and of the kWh those in the ETII share and in the QHS share.
+#[derive(Clone, Copy)]
+pub struct Bill {
+    pub contract: u32,
+    pub first: u32,
+    pub last: u32,
+    pub kwh: i64,
+    pub etii_share: i64,
+    pub qhs_share: i64,
+    pub reference: i64,
+    pub supply: i64,
+}
+
+impl Bill {
+    /// Whether either share isn't 0; the contract's certificate is then set aside.
+    pub fn has_shares(&self) -> bool {
+        self.etii_share | self.qhs_share != 0
+    }
+
+    /// The kWh in neither share, which are negative where the shares exceed the kWh.
+    pub fn rest(&self) -> i64 {
+        self.kwh - self.etii_share - self.qhs_share
+    }
+}
+
+/// The class by which energy is rated.
+enum Class {
+    Baseline,
+    Etii,
+    Qhs,
+}
+
 impl Contract {
-    /// The rate in ticks of a bill with that first day, R and S.
-    pub fn rate(&self, first: u32, reference: i64, supply: i64) -> i64 {
-        let prices = self.prices();
+    /// The rate in ticks that is answered for a bill: that of the kWh in neither share.
+    #[inline]
+    pub fn rate(&self, bill: &Bill) -> i64 {
+        self.class_rate(self.class(bill), bill)
+    }
+
+    /// The amount in ticks of a bill: the sum over the two shares and the rest.
+    #[inline]
+    pub fn amount(&self, bill: &Bill) -> i64 {
+        let rest = bill.rest() * self.rate(bill);
+        if !bill.has_shares() {
+            return rest;
+        }
+        rest + bill.etii_share * self.class_rate(Class::Etii, bill)
+            + bill.qhs_share * self.class_rate(Class::Qhs, bill)
+    }
+
+    /// The class of the kWh in neither share: baseline beside a share, or else the class that the
+    /// contract's certificate gives.
+    fn class(&self, bill: &Bill) -> Class {
         match self.certificate {
-            Certificate::Etii { effective_day } if effective_day <= first => {
+            _ if bill.has_shares() => Class::Baseline,
+            Certificate::Etii { effective_day } if effective_day <= bill.first => Class::Etii,
+            Certificate::Qhs { effective_day } if effective_day <= bill.first => Class::Qhs,
+            _ => Class::Baseline,
+        }
+    }
+
+    /// The rate in ticks of a bill's energy of a class.
+    fn class_rate(&self, class: Class, bill: &Bill) -> i64 {
+        let (reference, supply) = (bill.reference, bill.supply);
+        let prices = self.prices();
+        match class {
+            Class::Baseline => 10 * prices.baseline_part(reference, supply),
+            Class::Etii => {
                 3 * prices.baseline_part(reference, supply)
                     + 7 * prices.etii_part(reference, supply)
             }
-            Certificate::Qhs { effective_day } if effective_day <= first => {
-                10 * (supply - self.qhs_minimum(first)).min(reference).max(0)
+            Class::Qhs => {
+                10 * (supply - self.qhs_minimum(bill.first))
+                    .min(reference)
+                    .max(0)
             }
-            _ => 10 * prices.baseline_part(reference, supply),
         }
     }
 

@@ -1,4 +1,5 @@
-//! The numbers of document 01's section "Turned down, in checking order".
+//! The numbers of document 01's section "Turned down, in checking order", with that of
+//! document 02, paper 1; they stand in checking order.
 
 /// The ledger isn't well formed.
 pub const NOT_WELL_FORMED: u32 = 2;
@@ -14,6 +15,8 @@ pub const WRONG_CODE: u32 = 6;
 pub const WRONG_DAY: u32 = 7;
 /// kWh, S or WAP is out of its range.
 pub const WRONG_QUANTITY: u32 = 8;
+/// The two shares exceed kWh.
+pub const SHARES_EXCEED_KWH: u32 = 14;
 /// No row of that contract has that first day.
 pub const NO_SUCH_ROW: u32 = 9;
 /// Another row of the contract shares a day with the span.

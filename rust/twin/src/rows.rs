@@ -1,5 +1,5 @@
 //! Held rows found by their order, which is ascending by contract, then first day (document 01,
-//! section "The packed ledger, 18,760 bytes").
+//! section on the packed ledger).
 
 use std::ops::Range;
 
@@ -17,9 +17,9 @@ pub fn place_of(held: &[RowSlot], contract: u32, first: u32) -> Result<usize, u3
 pub fn new_place(held: &[RowSlot], numbers: BillNumbers) -> Result<usize, u32> {
     let key = (numbers.contract, numbers.first);
     let place = held.partition_point(|slot| Row::sort_key(slot) < key);
-    let before = held[..place].last().map(Row::unpack);
+    let before = held[..place].last().map(|slot| Row::unpack(slot).bill);
     let ends_within =
-        before.is_some_and(|row| row.contract == numbers.contract && row.last >= numbers.first);
+        before.is_some_and(|bill| bill.contract == numbers.contract && bill.last >= numbers.first);
     if ends_within || begins_within(held.get(place), numbers) {
         return Err(SHARED_DAY);
     }

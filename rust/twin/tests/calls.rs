@@ -3,7 +3,7 @@
 
 use twin::BillNumbers;
 
-const LEDGER_LENGTH: usize = 18_760;
+const LEDGER_LENGTH: usize = 25_928;
 
 const BOOK: [u32; 1_740] = [0; 1_740];
 
@@ -16,6 +16,8 @@ fn numbers(kwh: u32) -> BillNumbers {
         kwh,
         supply: 67_030,
         wap: 31_980,
+        etii_share: 0,
+        qhs_share: 0,
     }
 }
 
@@ -57,13 +59,16 @@ fn the_bytes_of_a_bill() {
         contract: 1,
         first: 486,
         last: 515,
-        kwh: 1_000,
+        kwh: 99_999_999,
         supply: 67_030,
-        wap: 11_000,
+        wap: 11_400,
+        etii_share: 40_000_001,
+        qhs_share: 35_000_003,
     };
+    // 24,999,995 kWh at 6,970 ticks, the ETII share at 12,591 and the QHS share at 114,000
     assert_eq!(
         twin::bill(&mut ledger, &BOOK, bill),
-        Ok([11_000, 3_000, 3_000_000])
+        Ok([11_400, 6_970, 4_667_890_319_741])
     );
     assert_eq!(ledger[..8], [0x80, 0, 0, 0, 0, 0, 0, 0]);
     assert_eq!(ledger[8..18], [0, 0, 0, 0, 0, 0xE0, 0, 0, 0, 0]);
@@ -72,17 +77,20 @@ fn the_bytes_of_a_bill() {
         "000001",
         "0111100110",
         "1000000011",
-        "000000000000000001111101000",
-        "00000010101011111000",
+        "101111101011110000011111111",
+        "010011000100101101000000001",
+        "010000101100000111011000011",
+        "00000010110010001000",
         "00010000010111010110",
-        "00000000000000000000000000001011011100011011000000"
+        "00000001000011111011010011111100011100000101111101",
+        "00"
     );
-    let bits: String = ledger[328..346]
+    let bits: String = ledger[328..353]
         .iter()
         .map(|byte| format!("{byte:08b}"))
         .collect();
     assert_eq!(bits, row);
-    assert!(ledger[346..].iter().all(|&byte| byte == 0));
+    assert!(ledger[353..].iter().all(|&byte| byte == 0));
 }
 
 #[test]
