@@ -2,8 +2,9 @@
  * The calls of the discount ledger of the Energy Bills Discount Scheme, for C and C++.
  *
  * The calls, their numbers, answers and refusals are those of document 01, "The discount ledger of
- * the Energy Bills Discount Scheme". The library is target/staticlib/libebds_c.a, which the command
- * `rt staticlib ebds_c` proves and builds. It keeps nothing between calls and allocates nothing.
+ * the Energy Bills Discount Scheme", with the shares of paper 1 of document 02, "Later changes to
+ * the base". The library is target/staticlib/libebds_c.a, which the command `rt staticlib ebds_c`
+ * proves and builds. It keeps nothing between calls and allocates nothing.
  *
  * What every call gives back
  *   The returned number is 0 where the call is accepted, or else the number that turns it down, the
@@ -34,6 +35,7 @@
  *    6  a territory, fuel, kind or class code has no meaning, or kind 3 is given outside its place
  *    7  a day is wrong
  *    8  kWh is above 100,000,000, S or WAP above 999,999, or a WAP isn't 0 where it must be
+ *   14  the two shares exceed kWh (ebds_bill, ebds_rebill)
  *    9  no row of that contract has that first day (ebds_rebill, ebds_cancel)
  *   10  another row of the contract shares a day with the span (ebds_bill, ebds_rebill)
  *   11  the book's price needed is 0
@@ -51,6 +53,13 @@
  *   reference wholesale price, S the supply price (`supply`), WAP the weighted price (`wap`), all in
  *   mils. Rates and amounts are in ticks, ten-thousandths of a penny. A row is a bill that stands;
  *   due is the sum of the amounts of the rows.
+ *
+ * Shares
+ *   Where a landlord's meter serves ETII and QHS tenants beside others, a bill says how many of its
+ *   kWh are in the ETII share (`etii_share`) and in the QHS share (`qhs_share`). If either isn't 0,
+ *   each share is rated by its class and the rest of the kWh as baseline, whatever the contract's
+ *   certificate says; the amount is the sum over the three, and the rate answered is the baseline
+ *   one. If both are 0, the certificate applies.
  */
 #ifndef EBDS_H
 #define EBDS_H
@@ -59,7 +68,7 @@
 #include <stdint.h>
 
 /* The length of a packed ledger in bytes. */
-#define EBDS_LEDGER_LENGTH 18760
+#define EBDS_LEDGER_LENGTH 25928
 
 /* How many prices a book has. */
 #define EBDS_BOOK_LENGTH 1740
@@ -84,20 +93,22 @@ uint32_t ebds_open(uint8_t *ledger, size_t ledger_length, uint32_t contract, uin
  */
 uint32_t ebds_bill(uint8_t *ledger, size_t ledger_length, const uint32_t *book, size_t book_length,
                    uint32_t contract, uint32_t first, uint32_t last, uint32_t kwh, uint32_t supply,
-                   uint32_t wap, int64_t *answer);
+                   uint32_t wap, uint32_t etii_share, uint32_t qhs_share, int64_t *answer);
 
 /*
- * rebill: puts a row in place of the one with that contract and first day; R is looked up anew.
- * Answers R, rate, the new amount minus the old.
+ * rebill: puts a row in place of the one with that contract and first day, with the shares given; R
+ * is looked up anew. Answers R, rate, the new amount minus the old.
  */
 uint32_t ebds_rebill(uint8_t *ledger, size_t ledger_length, const uint32_t *book,
                      size_t book_length, uint32_t contract, uint32_t first, uint32_t last,
-                     uint32_t kwh, uint32_t supply, uint32_t wap, int64_t *answer);
+                     uint32_t kwh, uint32_t supply, uint32_t wap, uint32_t etii_share,
+                     uint32_t qhs_share, int64_t *answer);
 
 /*
- * cert: replaces the contract's certificate and re-rates its rows. The effective day is 486 to 851,
- * 511 to 851 for QHS, and 0 for class 0, which takes the certificate away. Answers the net change of
- * due and the count of rows whose amount changed.
+ * cert: replaces the contract's certificate and re-rates its rows; a row with a share that isn't 0
+ * keeps its amount. The effective day is 486 to 851, 511 to 851 for QHS, and 0 for class 0, which
+ * takes the certificate away. Answers the net change of due and the count of rows whose amount
+ * changed.
  */
 uint32_t ebds_cert(uint8_t *ledger, size_t ledger_length, uint32_t contract,
                    uint32_t certificate_class, uint32_t effective_day, int64_t *answer);

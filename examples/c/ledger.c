@@ -1,7 +1,8 @@
 /*
  * A ledger from C: a flexible electricity contract is opened, billed and claimed for; then an ETII
- * certificate comes late, and the next claim takes the difference. It prints ledger.out. From the
- * repository's root:
+ * certificate comes late, and the next claim takes the difference. A bill with an ETII and a QHS
+ * share follows, to which the certificate doesn't apply. It prints ledger.out. From the repository's
+ * root:
  *
  *   rt staticlib ebds_c && gcc -std=c11 -Wall -Wextra -O2 -I include examples/c/ledger.c \
  *       target/staticlib/libebds_c.a -o target/ledger_example && target/ledger_example
@@ -42,12 +43,15 @@ static uint32_t day_number(uint32_t year, uint32_t month, uint32_t day)
     return (uint32_t)answer[0];
 }
 
-/* Bills 1,000 kWh from the first to the last day, at a supply price of 67.03p and a WAP of 31.98p. */
-static void bill(uint32_t first, uint32_t last)
+/*
+ * Bills 1,000 kWh from the first to the last day, at a supply price of 67.03p and a WAP of 31.98p,
+ * with so many of the kWh in the ETII share and in the QHS share.
+ */
+static void bill(uint32_t first, uint32_t last, uint32_t etii_share, uint32_t qhs_share)
 {
     int64_t answer[3];
     uint32_t refusal = ebds_bill(ledger, sizeof ledger, book, EBDS_BOOK_LENGTH, CONTRACT, first,
-                                 last, 1000, 67030, 31980, answer);
+                                 last, 1000, 67030, 31980, etii_share, qhs_share, answer);
 
     print("bill", refusal, answer);
 }
@@ -65,21 +69,25 @@ int main(void)
 {
     int64_t answer[3];
     uint32_t refusal;
-    uint32_t first = day_number(2023, 4, 1);
-    uint32_t last = day_number(2023, 4, 30);
+    uint32_t april = day_number(2023, 4, 1);
+    uint32_t april_end = day_number(2023, 4, 30);
+    uint32_t may = day_number(2023, 5, 1);
+    uint32_t may_end = day_number(2023, 5, 31);
 
     refusal = ebds_start(ledger, sizeof ledger, GREAT_BRITAIN, answer);
     print("start", refusal, answer);
     refusal = ebds_open(ledger, sizeof ledger, CONTRACT, ELECTRICITY, FLEXIBLE, 0, 0, answer);
     print("open", refusal, answer);
-    bill(first, last);
+    bill(april, april_end, 0, 0);
     claim();
-    refusal = ebds_cert(ledger, sizeof ledger, CONTRACT, ETII, first, answer);
+    refusal = ebds_cert(ledger, sizeof ledger, CONTRACT, ETII, april, answer);
     print("cert", refusal, answer);
+    claim();
+    bill(may, may_end, 400, 350);
     claim();
     refusal = ebds_report(ledger, sizeof ledger, CONTRACT, answer);
     print("report", refusal, answer);
     /* The same days once more: number 10. */
-    bill(first, last);
+    bill(may, may_end, 0, 0);
     return 0;
 }

@@ -42,6 +42,8 @@ extern "C" {
         kwh: u32,
         supply: u32,
         wap: u32,
+        etii_share: u32,
+        qhs_share: u32,
         answer: *mut i64,
     ) -> u32;
     fn ebds_rebill(
@@ -55,6 +57,8 @@ extern "C" {
         kwh: u32,
         supply: u32,
         wap: u32,
+        etii_share: u32,
+        qhs_share: u32,
         answer: *mut i64,
     ) -> u32;
     fn ebds_cert(
@@ -86,6 +90,8 @@ type BillCall = unsafe extern "C" fn(
     usize,
     *const u32,
     usize,
+    u32,
+    u32,
     u32,
     u32,
     u32,
@@ -163,6 +169,8 @@ fn give_bill(call: BillCall, ledger: &mut [u8], book: &[u32], numbers: BillNumbe
             numbers.kwh,
             numbers.supply,
             numbers.wap,
+            numbers.etii_share,
+            numbers.qhs_share,
             answer,
         )
     })

@@ -121,7 +121,7 @@ impl Ledger {
         })
     }
 
-    /// The ledger's 18,760 bytes.
+    /// The ledger's [`LEDGER_LENGTH`] bytes.
     pub fn as_bytes(&self) -> &[u8] {
         &self.bytes
     }
@@ -172,7 +172,7 @@ impl Ledger {
         })
     }
 
-    /// Replaces the contract's certificate and re-rates its rows.
+    /// Replaces the contract's certificate and re-rates its rows; one with shares keeps its amount.
     pub fn cert(&mut self, contract: u32, certificate: Certificate) -> Result<Certified, Refusal> {
         let (class, effective_day) = match certificate {
             Certificate::None => (0, 0),

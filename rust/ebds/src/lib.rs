@@ -3,7 +3,7 @@
 //! [`Ledger`] owns a packed ledger and takes and answers typed values; [`calls`] has the same
 //! calls on bytes of any length and with any numbers. Both go through the C library of
 //! include/ebds.h. The terms are those of document 01, "The discount ledger of the Energy Bills
-//! Discount Scheme".
+//! Discount Scheme", and of paper 1 of document 02, "Later changes to the base".
 
 pub mod calls;
 mod ledger;
@@ -16,13 +16,17 @@ pub use ledger::{
 pub use refusal::Refusal;
 
 /// The length of a packed ledger in bytes.
-pub const LEDGER_LENGTH: usize = 18_760;
+pub const LEDGER_LENGTH: usize = 25_928;
 
 /// How many prices a book has.
 pub const BOOK_LENGTH: usize = 1_740;
 
-/// The numbers of a bill or rebill: its contract, first and last day, kWh, and the supply price
-/// S and the weighted price WAP in mils. WAP is 0 unless the contract is flexible.
+/// The numbers of a bill or rebill: its contract, first and last day, kWh, the supply price S and
+/// the weighted price WAP in mils, and of the kWh those in the ETII share and those in the QHS
+/// share. WAP is 0 unless the contract is flexible.
+///
+/// If either share isn't 0, each share is rated by its class and the rest of the kWh as baseline,
+/// the contract's certificate is set aside, and the rate answered is the baseline one.
 #[derive(Clone, Copy, Debug)]
 pub struct BillNumbers {
     pub contract: u32,
@@ -31,4 +35,6 @@ pub struct BillNumbers {
     pub kwh: u32,
     pub supply: u32,
     pub wap: u32,
+    pub etii_share: u32,
+    pub qhs_share: u32,
 }

@@ -1,4 +1,5 @@
-//! What turns a call down (document 01, section "Turned down, in checking order").
+//! What turns a call down (document 01, section "Turned down, in checking order"; document 02,
+//! paper 1).
 
 use std::error::Error;
 use std::fmt::{self, Display, Formatter};
@@ -14,6 +15,7 @@ pub enum Refusal {
     WrongCode = 6,
     WrongDay = 7,
     WrongQuantity = 8,
+    SharesExceedKwh = 14,
     NoSuchRow = 9,
     SharedDay = 10,
     NoPrice = 11,
@@ -23,7 +25,7 @@ pub enum Refusal {
 
 impl Refusal {
     /// All of them, in checking order.
-    const ALL: [Refusal; 12] = [
+    const ALL: [Refusal; 13] = [
         Refusal::NotWellFormed,
         Refusal::BadBook,
         Refusal::NoSuchContract,
@@ -31,6 +33,7 @@ impl Refusal {
         Refusal::WrongCode,
         Refusal::WrongDay,
         Refusal::WrongQuantity,
+        Refusal::SharesExceedKwh,
         Refusal::NoSuchRow,
         Refusal::SharedDay,
         Refusal::NoPrice,
@@ -38,7 +41,7 @@ impl Refusal {
         Refusal::NoClaimLeft,
     ];
 
-    /// Document 01's number.
+    /// The papers' number.
     pub fn number(self) -> u32 {
         self as u32
     }
@@ -50,7 +53,7 @@ impl Refusal {
             .find(|refusal| refusal.number() == number)
     }
 
-    /// Document 01's words.
+    /// The papers' words.
     fn words(self) -> &'static str {
         match self {
             Refusal::NotWellFormed => "the ledger isn't well formed",
@@ -64,6 +67,7 @@ impl Refusal {
             Refusal::WrongQuantity => {
                 "kWh is above 100,000,000, S or WAP above 999,999, or a WAP not 0 where it must be"
             }
+            Refusal::SharesExceedKwh => "the two shares exceed kWh",
             Refusal::NoSuchRow => "no row of that contract has that first day",
             Refusal::SharedDay => "another row of the contract shares a day with the span",
             Refusal::NoPrice => "the book's price needed is 0",

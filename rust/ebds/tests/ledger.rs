@@ -20,6 +20,8 @@ fn april(contract: u32, kwh: u32, wap: u32) -> BillNumbers {
         kwh,
         supply: 67_030,
         wap,
+        etii_share: 0,
+        qhs_share: 0,
     }
 }
 
@@ -152,10 +154,19 @@ fn a_ledger_comes_back_from_its_bytes() -> Result<(), Refusal> {
 
 #[test]
 fn a_refusal_says_its_number_and_words() {
-    let refusal = Refusal::NoRoom;
-    assert_eq!(refusal.number(), 12);
-    assert_eq!(
-        refusal.to_string(),
-        "refused 12: 1,024 rows are held already"
-    );
+    for (refusal, number, text) in [
+        (
+            Refusal::NoRoom,
+            12,
+            "refused 12: 1,024 rows are held already",
+        ),
+        (
+            Refusal::SharesExceedKwh,
+            14,
+            "refused 14: the two shares exceed kWh",
+        ),
+    ] {
+        assert_eq!(refusal.number(), number);
+        assert_eq!(refusal.to_string(), text);
+    }
 }

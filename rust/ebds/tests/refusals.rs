@@ -18,6 +18,8 @@ const HELD: BillNumbers = BillNumbers {
     kwh: 1_000,
     supply: 67_030,
     wap: 31_980,
+    etii_share: 0,
+    qhs_share: 0,
 };
 
 /// A bill that the ledger of these tests takes.
@@ -75,9 +77,13 @@ fn a_damaged_ledger_is_number_2() {
         (12, 0, "a bit after a contract's fields"),
         (13, 0, "a day of a contract that isn't open"),
         (328, 1, "a row of a contract that isn't open"),
-        (345, 0, "an amount that isn't kWh times rate"),
-        (346, 0, "bits of a row that isn't held"),
-        (364, 7, "a row after one that isn't held"),
+        (338, 7, "an ETII share that isn't in the amount"),
+        (341, 4, "a QHS share that isn't in the amount"),
+        (352, 2, "an amount that isn't kWh times rate"),
+        (352, 1, "a bit after a row's fields"),
+        (352, 0, "a row's last bit"),
+        (353, 0, "bits of a row that isn't held"),
+        (378, 7, "a row after one that isn't held"),
         (LEDGER_LENGTH - 1, 0, "the last bit"),
     ] {
         let mut bytes = ledger();
@@ -89,15 +95,63 @@ fn a_damaged_ledger_is_number_2() {
 #[test]
 fn two_rows_that_share_a_day_are_number_2() {
     let mut bytes = ledger();
-    let (rows, free) = bytes[328..].split_at_mut(18);
-    free[..18].copy_from_slice(rows);
+    let (rows, free) = bytes[328..].split_at_mut(25);
+    free[..25].copy_from_slice(rows);
     expect_not_well_formed(&bytes, "the same row twice");
+}
+
+/// Damaged shares of a row whose rates are all 0, so that its amount is right whatever its shares
+/// are: (byte, bits put there).
+#[test]
+fn shares_above_kwh_in_a_row_are_number_2() {
+    let without_discount = BillNumbers {
+        kwh: 1,
+        supply: 1,
+        wap: 1,
+        ..HELD
+    };
+    let mut whole = ledger();
+    calls::rebill(&mut whole, &BOOK, without_discount).expect("a rebill");
+    let with = |bits: &[(usize, u8)]| {
+        let mut bytes = whole.clone();
+        for &(byte, set) in bits {
+            bytes[byte] |= set;
+        }
+        bytes
+    };
+    let (etii_of_1, qhs_of_1) = ((338, 0x80), (341, 0x10));
+    for taken in [etii_of_1, qhs_of_1] {
+        assert_eq!(calls::total(&with(&[taken])), Ok([0; 3]), "{taken:?}");
+    }
+    let (etii_of_2, qhs_of_2) = ((337, 0x01), (341, 0x20));
+    let (etii_highest_bit, qhs_highest_bit) = ((334, 0x02), (338, 0x40));
+    for exceeding in [
+        &[etii_of_1, qhs_of_1][..],
+        &[etii_of_2],
+        &[qhs_of_2],
+        &[etii_highest_bit],
+        &[qhs_highest_bit],
+        &[etii_highest_bit, qhs_highest_bit],
+    ] {
+        expect_not_well_formed(&with(exceeding), &format!("{exceeding:?}"));
+    }
 }
 
 #[test]
 fn a_wrong_length_is_number_2() {
     let whole = ledger();
-    for length in [0, 1, 7, 8, 328, 346, LEDGER_LENGTH - 18, LEDGER_LENGTH - 1] {
+    // 18,760 bytes are a ledger of document 01 without the shares of document 02
+    for length in [
+        0,
+        1,
+        7,
+        8,
+        328,
+        353,
+        18_760,
+        LEDGER_LENGTH - 25,
+        LEDGER_LENGTH - 1,
+    ] {
         expect_not_well_formed(&whole[..length], "short");
     }
     expect_not_well_formed(&[whole, vec![0]].concat(), "long");
@@ -109,7 +163,7 @@ fn start_takes_any_bytes_of_the_length_and_no_other() {
     assert_eq!(calls::start(&mut bytes, 1), Ok([0; 3]));
     assert_eq!(bytes[0], 0x80);
     assert!(bytes[1..].iter().all(|&byte| byte == 0));
-    for length in [0, LEDGER_LENGTH - 1, LEDGER_LENGTH + 1] {
+    for length in [0, 18_760, LEDGER_LENGTH - 1, LEDGER_LENGTH + 1] {
         let mut bytes = vec![255; length];
         // An unknown territory is number 6, which comes after number 2.
         let number = calls::start(&mut bytes, 2).map_err(|refusal| refusal.number());
