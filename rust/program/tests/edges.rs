@@ -50,7 +50,7 @@ fn numbers_at_their_limits() {
         &["ok 2021 12 1", "refused 1", "ok 2024 3 31", "refused 7", "refused 1", "refused 1", "refused 1", "refused 1"],
     );
     expect(
-        b"bill 4294967295 4294967295 4294967295 4294967295 4294967295 4294967295\nprice 4294967295 4294967295\n",
+        b"bill 4294967295 4294967295 4294967295 4294967295 4294967295 4294967295 4294967295 4294967295\nprice 4294967295 4294967295\n",
         &["refused 4", "refused 8"],
     );
 }
@@ -71,7 +71,7 @@ fn full_ledger() -> String {
     for contract in 0..64 {
         input += &format!("open {contract} 1 2 0 0\ncert {contract} 2 511\n");
         for day in 792..808 {
-            input += &format!("bill {contract} {day} {day} 100000000 999999 999999\n");
+            input += &format!("bill {contract} {day} {day} 100000000 999999 999999 0 0\n");
         }
     }
     input
@@ -108,13 +108,14 @@ fn the_largest_amounts_in_a_full_ledger() {
 
 #[test]
 fn a_full_ledger_takes_no_row_until_one_is_cancelled() {
-    // 12, before which 10 is tested; a cancelled row's place serves again
-    let input = "bill 0 600 600 1 1 1\nbill 0 792 792 1 1 1\ncancel 0 792\nbill 0 600 600 1 1 1\nbill 0 601 601 1 1 1\n";
+    // 12, before which 10 and 14 are tested; a cancelled row's place serves again
+    let input = "bill 0 600 600 1 1 1 0 0\nbill 0 792 792 1 1 1 0 0\nbill 0 600 600 1 1 1 1 1\ncancel 0 792\nbill 0 600 600 1 1 1 0 0\nbill 0 601 601 1 1 1 0 0\n";
     assert_eq!(
         after_full_ledger(input),
         [
             "refused 12",
             "refused 10",
+            "refused 14",
             "ok -993499000000000",
             "ok 1 0 0",
             "refused 12"
@@ -132,7 +133,7 @@ fn a_missing_price_is_found_before_a_full_ledger() {
             &format!("bill 62 {} {} ", day + 16, day + 16),
         );
     }
-    input += "bill 0 600 600 1 1 1\nbill 63 486 486 1 1 0\n";
+    input += "bill 0 600 600 1 1 1 0 0\nbill 63 486 486 1 1 0 0 0\n";
     let printed = printed(input.as_bytes());
     assert!(printed.ends_with(b"9934990 993499000000000\nrefused 12\nrefused 11\n"));
 }

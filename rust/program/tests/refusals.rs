@@ -1,11 +1,11 @@
-//! Document 01, "Turned down, in checking order": each number that the program can meet, and for each pair of neighbouring tests a
-//! line that fails both, which the lower number turns down. The program's own ledger and book never meet numbers 2 and 3; the tests
-//! of the package `ebds` do.
+//! Document 01, "Turned down, in checking order", with number 14 of document 02, paper 1: each number that the program can meet, and
+//! for each pair of neighbouring tests a line that fails both, which the earlier test turns down. The program's own ledger and book
+//! never meet numbers 2 and 3; the tests of the package `ebds` do.
 
 use program::expect;
 
 /// Contract 0 flexible electricity, with a bill of days 486 to 515; contract 1 variable gas, with no price published.
-const OPENED: &str = "open 0 0 2 0 0\nbill 0 486 515 1 1 1\nopen 1 1 1 0 0\n";
+const OPENED: &str = "open 0 0 2 0 0\nbill 0 486 515 1 1 1 0 0\nopen 1 1 1 0 0\n";
 
 /// The line printed last, after the lines of `OPENED`.
 fn refused_after_opening(line: &str, number: u32) {
@@ -43,14 +43,33 @@ fn number_1_a_line_that_cannot_be_read() {
     );
 }
 
+/// A bill and a rebill of six, seven and nine numbers, and with shares that can't be read.
+#[test]
+fn number_1_the_shares_of_a_bill() {
+    for call in ["bill 0 600 600 1 1 1", "rebill 0 486 515 1 1 1"] {
+        for end in [
+            "",
+            " 0",
+            " 0 0 0",
+            " 0 0 ",
+            " 0  0",
+            " 0 00",
+            " 0 4294967296",
+            " 4294967296 0",
+        ] {
+            refused_after_opening(&format!("{call}{end}"), 1);
+        }
+    }
+}
+
 #[test]
 fn number_4_the_contract_number() {
     refused(
         4,
         &[
             "open 64 0 2 0 0",
-            "bill 64 600 600 1 1 1",
-            "rebill 64 486 515 1 1 1",
+            "bill 64 600 600 1 1 1 0 0",
+            "rebill 64 486 515 1 1 1 0 0",
             "cert 64 1 486",
             "cancel 64 486",
             "report 64",
@@ -64,8 +83,8 @@ fn number_5_open_already_or_not_open() {
         5,
         &[
             "open 0 0 2 0 0",
-            "bill 63 600 600 1 1 1",
-            "rebill 63 486 515 1 1 1",
+            "bill 63 600 600 1 1 1 0 0",
+            "rebill 63 486 515 1 1 1 0 0",
             "cert 63 1 486",
             "cancel 63 486",
             "report 63",
@@ -115,10 +134,10 @@ fn number_7_days() {
     refused(
         7,
         &[
-            "bill 0 485 600 1 1 1",
-            "bill 0 601 600 1 1 1",
-            "bill 0 600 852 1 1 1",
-            "rebill 0 486 852 1 1 1",
+            "bill 0 485 600 1 1 1 0 0",
+            "bill 0 601 600 1 1 1 0 0",
+            "bill 0 600 852 1 1 1 0 0",
+            "rebill 0 486 852 1 1 1 0 0",
         ],
     );
     refused(
@@ -138,20 +157,75 @@ fn number_8_amounts_and_prices() {
     refused(
         8,
         &[
-            "bill 0 600 600 100000001 1 1",
-            "bill 0 600 600 1 1000000 1",
-            "bill 0 600 600 1 1 1000000",
-            "bill 1 600 600 1 1 1",
+            "bill 0 600 600 100000001 1 1 0 0",
+            "bill 0 600 600 1 1000000 1 0 0",
+            "bill 0 600 600 1 1 1000000 0 0",
+            "bill 1 600 600 1 1 1 0 0",
         ],
     );
     refused(
         8,
         &[
-            "rebill 0 486 515 100000001 1 1",
+            "rebill 0 486 515 100000001 1 1 0 0",
             "price 1740 0",
             "price 0 1000000",
         ],
     );
+}
+
+/// Bills and rebills of 1,000 kWh, with their two shares.
+#[test]
+fn number_14_shares_above_kwh() {
+    for shares in [
+        "1001 0",
+        "0 1001",
+        "1000 1",
+        "1 1000",
+        "500 501",
+        "4294967295 0",
+        "0 4294967295",
+        "4294967295 1",
+        "1 4294967295",
+        "4294967295 1001",
+        "2147483648 2147483648",
+        "4294967295 4294967295",
+    ] {
+        refused_after_opening(&format!("bill 0 600 600 1000 1 1 {shares}"), 14);
+        refused_after_opening(&format!("rebill 0 486 515 1000 1 1 {shares}"), 14);
+    }
+    refused(
+        14,
+        &["bill 0 600 600 0 1 1 1 0", "bill 0 600 600 0 1 1 0 1"],
+    );
+    refused(
+        14,
+        &[
+            "bill 0 600 600 100000000 1 1 100000001 0",
+            "bill 0 600 600 100000000 1 1 0 100000001",
+            "bill 0 600 600 100000000 1 1 50000000 50000001",
+        ],
+    );
+}
+
+#[test]
+fn shares_of_exactly_kwh_are_no_number_14() {
+    for (kwh, shares) in [
+        (0, "0 0"),
+        (1_000, "1000 0"),
+        (1_000, "0 1000"),
+        (1_000, "400 600"),
+        (100_000_000, "100000000 0"),
+        (100_000_000, "0 100000000"),
+        (100_000_000, "99999999 1"),
+    ] {
+        expect(
+            format!(
+                "{OPENED}bill 0 600 600 {kwh} 1 1 {shares}\nrebill 0 486 515 {kwh} 1 1 {shares}\n"
+            )
+            .as_bytes(),
+            &["ok", "ok 1 0 0", "ok", "ok 1 0 0", "ok 1 0 0"],
+        );
+    }
 }
 
 #[test]
@@ -159,8 +233,8 @@ fn number_9_no_such_row() {
     refused(
         9,
         &[
-            "rebill 0 487 515 1 1 1",
-            "rebill 1 486 515 1 1 0",
+            "rebill 0 487 515 1 1 1 0 0",
+            "rebill 1 486 515 1 1 0 0 0",
             "cancel 0 487",
             "cancel 1 486",
         ],
@@ -172,13 +246,13 @@ fn number_10_a_day_shared() {
     refused(
         10,
         &[
-            "bill 0 486 486 1 1 1",
-            "bill 0 515 600 1 1 1",
-            "bill 0 500 501 1 1 1",
+            "bill 0 486 486 1 1 1 0 0",
+            "bill 0 515 600 1 1 1 0 0",
+            "bill 0 500 501 1 1 1 0 0",
         ],
     );
     expect(
-        format!("{OPENED}bill 0 516 520 1 1 1\nrebill 0 486 516 1 1 1\nrebill 0 486 510 1 1 1\n")
+        format!("{OPENED}bill 0 516 520 1 1 1 0 0\nrebill 0 486 516 1 1 1 0 0\nrebill 0 486 510 1 1 1 0 0\n")
             .as_bytes(),
         &["ok", "ok 1 0 0", "ok", "ok 1 0 0", "refused 10", "ok 1 0 0"],
     );
@@ -186,15 +260,15 @@ fn number_10_a_day_shared() {
 
 #[test]
 fn number_11_no_price() {
-    refused(11, &["bill 1 486 486 1 1 0"]);
+    refused(11, &["bill 1 486 486 1 1 0 0 0"]);
     expect(
-        b"price 1716 11050\nopen 1 1 1 0 0\nbill 1 515 515 1 20000 0\nbill 1 516 516 1 20000 0\n",
+        b"price 1716 11050\nopen 1 1 1 0 0\nbill 1 515 515 1 20000 0 0 0\nbill 1 516 516 1 20000 0 0 0\n",
         &["ok", "ok", "ok 11050 3500 3500", "refused 11"],
     );
 }
 
 #[test]
-fn the_lower_number_turns_a_line_down() {
+fn the_earlier_test_turns_a_line_down() {
     // 1 before 4, 4 before 6, 5 before 6, 6 before 7
     refused(1, &["report 064"]);
     refused(4, &["open 64 2 4 852 852", "cert 64 3 0"]);
@@ -203,30 +277,41 @@ fn the_lower_number_turns_a_line_down() {
         &[
             "open 0 2 4 852 852",
             "cert 63 3 0",
-            "bill 63 0 0 100000001 1 1",
+            "bill 63 0 0 100000001 1 1 0 0",
         ],
     );
     refused(6, &["open 2 2 0 852 0", "cert 0 3 0"]);
-    // 7 before 8, 8 before 9 and 10
+    // 7 before 8, 8 before 14, 9 and 10, 14 before 9, 10 and 11
     refused(
         7,
         &[
-            "bill 0 485 485 100000001 1 1",
-            "rebill 0 485 485 100000001 1 1",
+            "bill 0 485 485 100000001 1 1 0 0",
+            "rebill 0 485 485 100000001 1 1 0 0",
         ],
     );
     refused(
         8,
         &[
-            "rebill 0 487 515 100000001 1 1",
-            "bill 0 486 515 1 1000000 1",
+            "rebill 0 487 515 100000001 1 1 0 0",
+            "bill 0 486 515 1 1000000 1 0 0",
+            "bill 0 600 600 100000001 1 1 100000001 1",
+            "bill 0 600 600 1 1 1000000 4294967295 1",
+            "bill 1 486 486 1 1 1 1 1",
+        ],
+    );
+    refused(
+        14,
+        &[
+            "rebill 0 487 515 1 1 1 1 1",
+            "bill 0 486 515 1 1 1 1 1",
+            "bill 1 486 486 1 1 0 1 1",
         ],
     );
     // 9 before 10: no row begins on day 487, and the span shares days with the row of 486 to 515
-    refused(9, &["rebill 0 487 515 1 1 1"]);
+    refused(9, &["rebill 0 487 515 1 1 1 0 0"]);
     // 10 before 11: the row is held, and its price is published no longer
     expect(
-        b"price 1716 11050\nopen 1 1 1 0 0\nbill 1 486 515 1 20000 0\nprice 1716 0\nbill 1 515 515 1 20000 0\nrebill 1 486 515 1 20000 0\n",
+        b"price 1716 11050\nopen 1 1 1 0 0\nbill 1 486 515 1 20000 0 0 0\nprice 1716 0\nbill 1 515 515 1 20000 0 0 0\nrebill 1 486 515 1 20000 0 0 0\n",
         &["ok", "ok", "ok 11050 3500 3500", "ok", "refused 10", "refused 11"],
     );
 }
@@ -235,7 +320,7 @@ fn the_lower_number_turns_a_line_down() {
 fn a_refused_line_changes_nothing() {
     expect(
         format!(
-            "{OPENED}bill 0 500 501 9 9 9\ncancel 0 487\ncert 0 3 486\nreport 0\ntotal\nclaim\n"
+            "{OPENED}bill 0 500 501 9 9 9 0 0\ncancel 0 487\ncert 0 3 486\nreport 0\ntotal\nclaim\n"
         )
         .as_bytes(),
         &[
