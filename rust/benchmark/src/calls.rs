@@ -26,7 +26,8 @@ pub struct Case {
 }
 
 /// The calls on a ledger, in document 01's order. A bill, a rebill and a cancellation are of a row
-/// in the middle of the others, a certificate and a report of the contract with the most rows.
+/// with shares in the middle of the others, a certificate and a report of the contract with the
+/// most rows.
 pub const CASES: [Case; 9] = [
     Case {
         name: "start",
@@ -109,5 +110,7 @@ fn proved_numbers(numbers: twin::BillNumbers) -> ebds::BillNumbers {
         kwh: numbers.kwh,
         supply: numbers.supply,
         wap: numbers.wap,
+        etii_share: numbers.etii_share,
+        qhs_share: numbers.qhs_share,
     }
 }

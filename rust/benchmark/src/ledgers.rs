@@ -1,5 +1,6 @@
 //! The ledgers that calls are measured on: 63 open contracts of every fuel, kind and class, with as
-//! many rows as asked for. The twin builds them, and the proved calls must leave the same bytes.
+//! many rows as asked for, every fourth of a contract's with shares. The twin builds them, and the
+//! proved calls must leave the same bytes.
 
 use crate::calls::{proved, proved_bill, Answer};
 
@@ -21,8 +22,14 @@ pub const FIRST_DAY: u32 = 511;
 /// The scheme's last day, which no row takes.
 pub const FREE_DAY: u32 = 851;
 
-/// How many days apart the rows of a contract are, unless it is the one with a quarter of them.
+/// How many days apart the rows of a contract are, unless it is the one with a quarter of them,
+/// whose rows are one day apart.
 const DAYS_APART: u32 = 25;
+
+/// How many days there are from one whose bills have shares to the next. Rows are 1 or 25 days
+/// apart, 1 more than a multiple of it: so a contract's first row has shares, and every fourth after
+/// it. A bill for the free day has shares, too.
+const DAYS_BETWEEN_SHARES: u32 = 4;
 
 /// Document 01's code of fixed contracts.
 const FIXED: u32 = 0;
@@ -61,16 +68,28 @@ pub fn ledger(rows: usize, book: &[u32]) -> Vec<u8> {
 /// The numbers of a contract's bill for one day.
 pub fn bill_numbers(contract: u32, day: u32) -> twin::BillNumbers {
     let place = 1_024 * contract + day;
+    let kwh = varied(place, 0, 100_000_000);
+    let (etii_share, qhs_share) = shares(day, kwh);
     twin::BillNumbers {
         contract,
         first: day,
         last: day,
-        kwh: varied(place, 0, 100_000_000),
+        kwh,
         supply: varied(place, 9_000, 60_000),
         wap: match kind(contract) {
             FLEXIBLE => reference_price(place),
             _ => 0,
         },
+        etii_share,
+        qhs_share,
+    }
+}
+
+/// The ETII share and the QHS share of a bill; where it has them, a quarter of its kWh is baseline.
+fn shares(day: u32, kwh: u32) -> (u32, u32) {
+    match (day - FIRST_DAY) % DAYS_BETWEEN_SHARES {
+        0 => (kwh / 4, kwh / 2),
+        _ => (0, 0),
     }
 }
 

@@ -42,14 +42,19 @@ pub fn full_session() -> String {
     input
 }
 
-/// The lines of a round: the bills, and then a certificate, a claim, a report and a total.
+/// The lines of a round: the bills, every fourth with shares, and then a certificate, a claim, a
+/// report and a total.
 fn round(number: u32) -> String {
     let call = if number < 16 { "bill" } else { "rebill" };
     let day = 486 + number % 16;
     let mut lines = String::new();
     for contract in 0..64 {
         let kwh = 1_000 + 64 * number + contract;
-        lines += &format!("{call} {contract} {day} {day} {kwh} 67030 31980\n");
+        let shares = match (number + contract) % 4 {
+            0 => format!("{} {}", kwh / 4, kwh / 2),
+            _ => "0 0".to_string(),
+        };
+        lines += &format!("{call} {contract} {day} {day} {kwh} 67030 31980 {shares}\n");
     }
     lines + &format!("cert {number} 1 486\nclaim\nreport {number}\ntotal\n")
 }
