@@ -89,7 +89,7 @@ pub amount-low : (contract : Contract) (bill : Bill) → Rateable bill → amoun
 unfolding amount shareAmount
 amount-low contract bill ok =
     let each : total (shareAmount contract bill) (shares contract bill) ≤ total (λ s. s .kwh * highestRate) (shares contract bill)
-        = total-le _ _ (λ s. mul-le-mul-left (s .kwh) (class-rate-low (contract .fuel) (s .class) (bill .reference) (bill .supply) (ok .supply))) (shares contract bill) in
+    = total-le _ _ (λ s. mul-le-mul-left (s .kwh) (class-rate-low (contract .fuel) (s .class) (bill .reference) (bill .supply) (ok .supply))) (shares contract bill) in
     omega (arith, each, total-times (λ s. s .kwh) highestRate (shares contract bill), shares-whole contract bill (ok .shares), ok .kwh)
 
 pub amount-bits : (contract : Contract) (bill : Bill) → Rateable bill → amount contract bill < 2 ^ 50
