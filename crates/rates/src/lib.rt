@@ -119,7 +119,7 @@ fn part_of(fuel: Fuel, class: Class, reference: u32, supply: u32) -> u64
 }
 
 // The rate of a class, in ticks.
-pub fn class_rate(fuel: Fuel, class: Class, reference: u32, supply: u32) -> u64
+fn class_rate(fuel: Fuel, class: Class, reference: u32, supply: u32) -> u64
     ensures { λ r. ⌜ r ≡ classRate fuel class reference supply ⌝ }
 {
     match class {
@@ -163,7 +163,7 @@ fn qhs_class(kind: Kind, first: u32) -> Class
 }
 
 // The class of a contract's bill with that first day.
-pub fn class_of(contract: Contract, first: u32) -> Class
+fn class_of(contract: Contract, first: u32) -> Class
     ensures { λ r. ⌜ r ≡ classOf contract first ⌝ }
 {
     let certificate = contract.certificate;
