@@ -1,14 +1,8 @@
 -- Bills with shares and without: by cases of whether a bill has shares, and the examples by computation. Assumes nothing.
-use mathlib.Core.Path.{_≡_, refl}
-use mathlib.Core.Bool.{Bool, false, cond}
-use mathlib.Core.List.{[], _∷_}
-use Prim.Native.Nat.{ℕ}
+use mathlib.Core.Path.{refl}
 use native.Mathlib.Omega.{arith}
-use Rattle.basics.specs.Lists.{total}
-use Rattle.rates.specs.declared.Contract.{Contract}
-use Rattle.rates.specs.declared.Bill.{Bill}
 use Rattle.rates.specs.Rates.{leastTerm, part, partOf, classRate, classCap, qhsClass, classOf}
-use Rattle.rates.specs.Amounts.{Share, share, hasShares, threeShares, shares, shareAmount, amount, shareCap, cap, answeredClass, rate}
+use Rattle.rates.specs.Amounts.{hasShares, threeShares, shares, shareAmount, amount, shareCap, cap, answeredClass, rate}
 use Rattle.rates.specs.SharesRated.{sharesExamples, SharesRated}
 use Rattle.rates.proofs.WithinCaps.{shares-whole}
 

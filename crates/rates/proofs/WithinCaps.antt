@@ -21,7 +21,7 @@ use Rattle.rates.specs.declared.Contract.{Contract}
 use Rattle.rates.specs.declared.Bill.{Bill}
 use Rattle.rates.specs.Prices.{pricesOf, minimumOf}
 use Rattle.rates.specs.Rates.{part, partOf, classRate, classCap, classOf}
-use Rattle.rates.specs.Amounts.{Share, share, hasShares, threeShares, shares, shareAmount, amount, shareCap, cap, answeredClass, rate, Rateable}
+use Rattle.rates.specs.Amounts.{share, hasShares, threeShares, shares, shareAmount, amount, shareCap, cap, answeredClass, rate, Rateable}
 use Rattle.rates.proofs.Parts.{part-limited, part-unlimited}
 
 -- a part is at most the maximum discount, or of QHS at most S − QHS minimum

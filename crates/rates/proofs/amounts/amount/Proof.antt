@@ -1,7 +1,7 @@
 -- `amount` is the sum over a bill's shares: over the three, or over the one that is all of it.
-use mathlib.Core.Path.{_≡_, sym, ap, _∙_}
+use mathlib.Core.Path.{_≡_, sym, _∙_}
 use mathlib.Core.Bool.{Bool, true, false}
-use Prim.Native.Nat.{ℕ, _+_}
+use Prim.Native.Nat.{ℕ}
 use native.Mathlib.Omega.{arith}
 use Rattle.basics.specs.Lists.{total}
 use Rattle.rates.specs.declared.Contract.{Contract}

@@ -1,6 +1,6 @@
 -- `share_amount` multiplies kWh by the rate of the class, and the product fits.
 use mathlib.Core.Path.{_≡_, ap}
-use Prim.Native.Nat.{ℕ, _*_, _^_, _≤_, _<_}
+use Prim.Native.Nat.{ℕ, _*_, _≤_}
 use native.Mathlib.Nat.{mul-le-mul}
 use native.Mathlib.Omega.{arith}
 use Rattle.limits.specs.Limits.{mostKwhStored, highestPrice}
