@@ -1,5 +1,5 @@
 //! Fields of 1 to 50 bits one after another in bytes, most significant bit first (document
-//! 01, section "The packed ledger, 18,760 bytes").
+//! 01, section "The packed ledger").
 
 /// Takes fields from bytes, from their first bit on.
 pub(crate) struct BitReader<'a> {

@@ -1,4 +1,5 @@
-//! The calls with their numbers (document 01, section "Calls"), and those that read no ledger.
+//! The calls with their numbers (document 01, section "Calls"; bill and rebill are those of
+//! document 02, paper 1), and those that read no ledger.
 
 use crate::dates::{date_of, day_number};
 use crate::refusals::WRONG_DAY;
@@ -14,6 +15,10 @@ pub struct BillNumbers {
     pub supply: u32,
     /// The weighted price in mils, which is a flexible contract's R.
     pub wap: u32,
+    /// The kWh in the ETII share.
+    pub etii_share: u32,
+    /// The kWh in the QHS share.
+    pub qhs_share: u32,
 }
 
 /// A call on a ledger; any number may be given.
@@ -65,7 +70,7 @@ pub fn date(day_number: u32) -> Outcome {
 impl BillNumbers {
     /// The numbers in the paper's order.
     fn of(numbers: &[u32]) -> Option<BillNumbers> {
-        let &[contract, first, last, kwh, supply, wap] = numbers else {
+        let &[contract, first, last, kwh, supply, wap, etii_share, qhs_share] = numbers else {
             return None;
         };
         Some(BillNumbers {
@@ -75,7 +80,26 @@ impl BillNumbers {
             kwh,
             supply,
             wap,
+            etii_share,
+            qhs_share,
         })
+    }
+
+    /// The inverse of `of`.
+    fn numbers(self) -> Vec<u32> {
+        let BillNumbers {
+            contract,
+            first,
+            last,
+            kwh,
+            supply,
+            wap,
+            etii_share,
+            qhs_share,
+        } = self;
+        vec![
+            contract, first, last, kwh, supply, wap, etii_share, qhs_share,
+        ]
     }
 }
 
@@ -134,17 +158,7 @@ impl Call {
                 price_fix_day,
                 entry_day,
             } => vec![contract, fuel, kind, price_fix_day, entry_day],
-            Call::Bill(bill) | Call::Rebill(bill) => {
-                let BillNumbers {
-                    contract,
-                    first,
-                    last,
-                    kwh,
-                    supply,
-                    wap,
-                } = bill;
-                vec![contract, first, last, kwh, supply, wap]
-            }
+            Call::Bill(bill) | Call::Rebill(bill) => bill.numbers(),
             Call::Cert {
                 contract,
                 class,

@@ -1,6 +1,6 @@
-//! Codes of territories, fuels, kinds and classes, and the ranges of days, kWh and prices
-//! (document 01, sections "Contracts and the price book" and "Turned down, in checking
-//! order", numbers 6 to 8).
+//! Codes of territories, fuels, kinds and classes, and the ranges of days, kWh, prices and
+//! shares (document 01, sections "Contracts and the price book" and "Turned down, in
+//! checking order", numbers 6 to 8; document 02, paper 1, number 14).
 
 use crate::dates::LAST_DAY;
 use crate::rates::{Certificate, Fuel, Kind};
@@ -152,6 +152,11 @@ pub(crate) fn effective_day_in_range(certificate: Certificate, effective_day: u3
 /// Number 7: whether 486 ≤ first ≤ last ≤ 851.
 pub(crate) fn span_in_range(first_day: u32, last_day: u32) -> bool {
     SCHEME_FIRST_DAY <= first_day && first_day <= last_day && last_day <= LAST_DAY
+}
+
+/// Number 14: whether the two shares exceed kWh. Their sum may need more than 32 bits.
+pub(crate) fn shares_exceed_kwh(etii_share: u32, qhs_share: u32, kwh: u32) -> bool {
+    u64::from(etii_share) + u64::from(qhs_share) > u64::from(kwh)
 }
 
 /// Whether two spans, each a first and a last day, share a day.

@@ -1,4 +1,4 @@
-//! The facts that a ledger holds (document 01, section "The packed ledger, 18,760 bytes").
+//! The facts that a ledger holds (document 01, section "The packed ledger").
 
 use crate::codes::Territory;
 use crate::rates::{Bill, Contract};

@@ -1,12 +1,13 @@
 //! The packed ledger's fields as numbers, whatever they are, and the bytes that they are
-//! packed in (document 01, section "The packed ledger, 18,760 bytes").
+//! packed in (document 01, section "The packed ledger"; the row is that of document 02,
+//! paper 1).
 
 use crate::bits::{BitReader, BitWriter};
 use crate::facts::{Row, CONTRACTS, MOST_ROWS};
 use crate::rates::{Bill, Certificate, Contract, Fuel, Kind};
 
 /// The bytes of a ledger.
-pub const LEDGER_BYTES: usize = 18_760;
+pub const LEDGER_BYTES: usize = 25_928;
 
 /// The numbers of all fields of a ledger.
 #[derive(Clone, Debug, PartialEq)]
@@ -40,13 +41,17 @@ pub struct RowNumbers {
     pub first_day: u32,
     pub last_day: u32,
     pub kwh: u32,
+    pub etii_share: u32,
+    pub qhs_share: u32,
     pub reference_price: u32,
     pub supply_price: u32,
     pub amount: u64,
+    /// The two last bits.
+    pub zeros: u32,
 }
 
 impl LedgerNumbers {
-    /// The numbers in 18,760 bytes.
+    /// The numbers in the bytes of a ledger.
     pub fn read(bytes: &[u8]) -> LedgerNumbers {
         assert_eq!(bytes.len(), LEDGER_BYTES);
         let mut reader = BitReader::new(bytes);
@@ -149,9 +154,12 @@ impl RowNumbers {
             first_day: reader.take_number(10),
             last_day: reader.take_number(10),
             kwh: reader.take_number(27),
+            etii_share: reader.take_number(27),
+            qhs_share: reader.take_number(27),
             reference_price: reader.take_number(20),
             supply_price: reader.take_number(20),
             amount: reader.take(50),
+            zeros: reader.take_number(2),
         }
     }
 
@@ -161,9 +169,12 @@ impl RowNumbers {
         writer.append(self.first_day.into(), 10);
         writer.append(self.last_day.into(), 10);
         writer.append(self.kwh.into(), 27);
+        writer.append(self.etii_share.into(), 27);
+        writer.append(self.qhs_share.into(), 27);
         writer.append(self.reference_price.into(), 20);
         writer.append(self.supply_price.into(), 20);
         writer.append(self.amount, 50);
+        writer.append(self.zeros.into(), 2);
     }
 
     /// The numbers of a held row.
@@ -175,9 +186,12 @@ impl RowNumbers {
             first_day: row.bill.first_day,
             last_day: row.last_day,
             kwh: number(row.bill.kwh),
+            etii_share: number(row.bill.etii_share),
+            qhs_share: number(row.bill.qhs_share),
             reference_price: number(row.bill.reference_price),
             supply_price: number(row.bill.supply_price),
             amount: row.amount.cast_unsigned(),
+            zeros: 0,
         }
     }
 
@@ -189,6 +203,8 @@ impl RowNumbers {
             bill: Bill {
                 first_day: self.first_day,
                 kwh: self.kwh.into(),
+                etii_share: self.etii_share.into(),
+                qhs_share: self.qhs_share.into(),
                 reference_price: self.reference_price.into(),
                 supply_price: self.supply_price.into(),
             },

@@ -1,5 +1,5 @@
-//! The packed ledger (document 01, section "The packed ledger, 18,760 bytes"): the facts
-//! packed, and unpacked from well-formed bytes; the calls on the bytes.
+//! The packed ledger (document 01, section "The packed ledger"): the facts packed, and
+//! unpacked from well-formed bytes; the calls on the bytes.
 
 use crate::calls::{Call, Outcome};
 use crate::codes::Territory;

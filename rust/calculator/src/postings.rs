@@ -1,19 +1,20 @@
 //! The old posting module: it writes each bill, reversal and reissue as a signed posting and
 //! adds the postings up. It answers the calls of document 01, section "Calls", and refuses
-//! by numbers 3 to 13 of the section "Turned down, in checking order".
+//! by numbers 3 to 13 of the section "Turned down, in checking order" and number 14 of
+//! document 02, paper 1.
 
 use crate::book;
 use crate::calls::{BillNumbers, Call, Outcome};
 use crate::codes::{
-    contract_days_in_range, effective_day_in_range, kind_in_its_place, span_in_range,
-    spans_share_a_day, Territory, HIGHEST_PRICE, MOST_KWH,
+    contract_days_in_range, effective_day_in_range, kind_in_its_place, shares_exceed_kwh,
+    span_in_range, spans_share_a_day, Territory, HIGHEST_PRICE, MOST_KWH,
 };
 use crate::facts::{Facts, Row, CONTRACTS, MOST_CLAIMS, MOST_ROWS};
 use crate::rates::{self, Bill, Certificate, Contract, Fuel, Kind};
 use crate::refusals::{
     refuse_if, CLAIMS_USED_UP, CODE_WITHOUT_MEANING, CONTRACT_NUMBER_TOO_HIGH,
     CONTRACT_OPEN_ALREADY_OR_NOT_OPEN, DAY_SHARED, NO_SUCH_ROW, NUMBER_OUT_OF_RANGE,
-    PRICE_NOT_PUBLISHED, ROWS_FULL, WRONG_BOOK, WRONG_DAY,
+    PRICE_NOT_PUBLISHED, ROWS_FULL, SHARES_EXCEED_KWH, WRONG_BOOK, WRONG_DAY,
 };
 use std::collections::BTreeMap;
 
@@ -233,7 +234,7 @@ impl PostingModule {
         self.postings.push(Posting { contract, amount });
     }
 
-    /// The contract of a bill or rebill that numbers 3 to 8 don't refuse.
+    /// The contract of a bill or rebill that numbers 3 to 8 and 14 don't refuse.
     fn billed_contract(&self, book: &[u32], numbers: BillNumbers) -> Result<Contract, u32> {
         refuse_if(!book::is_usable(book), WRONG_BOOK)?;
         let contract = self.open_contract(numbers.contract)?;
@@ -241,6 +242,10 @@ impl PostingModule {
         refuse_if(
             !bill_numbers_in_range(contract.kind, numbers),
             NUMBER_OUT_OF_RANGE,
+        )?;
+        refuse_if(
+            shares_exceed_kwh(numbers.etii_share, numbers.qhs_share, numbers.kwh),
+            SHARES_EXCEED_KWH,
         )?;
         Ok(contract)
     }
@@ -301,6 +306,8 @@ fn bill_of(numbers: BillNumbers, reference_price: u32) -> Bill {
     Bill {
         first_day: numbers.first,
         kwh: numbers.kwh.into(),
+        etii_share: numbers.etii_share.into(),
+        qhs_share: numbers.qhs_share.into(),
         reference_price: reference_price.into(),
         supply_price: numbers.supply.into(),
     }

@@ -1,4 +1,5 @@
 //! Discount rates of the scheme: Regulation 29's formula and the guidance's parameters.
+//! Bills with an ETII or a QHS share follow document 02, paper 1.
 //!
 //! Prices are in mils, thousandths of a penny per kWh; rates are in ticks, ten-thousandths
 //! of a penny per kWh (document 01, section "Prices per kWh"). Supply prices and reference
@@ -53,15 +54,26 @@ pub struct Contract {
     pub certificate: Certificate,
 }
 
-/// A bill, so far as it decides a rate and an amount.
-#[derive(Clone, Copy, Debug, PartialEq, Eq)]
+/// A bill, so far as it decides a rate and an amount; by default zeros.
+#[derive(Clone, Copy, Debug, Default, PartialEq, Eq)]
 pub struct Bill {
     pub first_day: u32,
     pub kwh: i64,
+    /// The kWh that a landlord passes on to ETII tenants.
+    pub etii_share: i64,
+    /// The kWh that a landlord passes on to QHS tenants.
+    pub qhs_share: i64,
     /// R, the Reference Wholesale Price, in mils (guidance, section 3.1).
     pub reference_price: i64,
     /// S, the Supply Price before discount, in mils (guidance, section 3.1).
     pub supply_price: i64,
+}
+
+impl Bill {
+    /// Whether either share isn't 0.
+    pub fn has_shares(&self) -> bool {
+        self.etii_share != 0 || self.qhs_share != 0
+    }
 }
 
 /// The scheme parameters of a class and fuel, in mils (guidance, sections 3.1 and 3.3).
@@ -108,11 +120,57 @@ pub fn class_of_bill(certificate: Certificate, first_day: u32) -> Class {
     }
 }
 
-/// The rate of a bill in ticks (guidance, section 3.4, "Calculation of Discount" for
-/// baseline support, ETII customers and QHS customers).
+/// The class of a bill's rest, the kWh in neither share: baseline where a share isn't 0, for
+/// the certificate is set aside; otherwise the bill's class.
+fn class_of_rest(contract: &Contract, bill: &Bill) -> Class {
+    if bill.has_shares() {
+        Class::Baseline
+    } else {
+        class_of_bill(contract.certificate, bill.first_day)
+    }
+}
+
+/// The rate of a bill in ticks: that of its rest.
 pub fn rate(contract: &Contract, bill: &Bill) -> i64 {
+    class_rate(class_of_rest(contract, bill), contract, bill)
+}
+
+/// The amount of a bill in ten-thousandths of a penny: kWh times rate, over the three
+/// shares. The rate "applies to all Customer consumption" of the billing period (guidance,
+/// section 3.4, examples).
+pub fn amount(contract: &Contract, bill: &Bill) -> i64 {
+    sum_over_shares(class_rate, contract, bill)
+}
+
+/// The cap of a bill in ten-thousandths of a penny: kWh times the class's cap, over the
+/// three shares.
+pub fn cap(contract: &Contract, bill: &Bill) -> i64 {
+    sum_over_shares(class_cap, contract, bill)
+}
+
+/// The sum, over a bill's three shares, of kWh times what the class has for a kWh.
+fn sum_over_shares(
+    for_a_kwh: fn(Class, &Contract, &Bill) -> i64,
+    contract: &Contract,
+    bill: &Bill,
+) -> i64 {
+    let rest = bill.kwh - bill.etii_share - bill.qhs_share;
+    let shares = [
+        (bill.etii_share, Class::Etii),
+        (bill.qhs_share, Class::Qhs),
+        (rest, class_of_rest(contract, bill)),
+    ];
+    let shares = shares.into_iter();
+    shares
+        .map(|(kwh, class)| kwh * for_a_kwh(class, contract, bill))
+        .sum()
+}
+
+/// The rate of a class in ticks (guidance, section 3.4, "Calculation of Discount" for
+/// baseline support, ETII customers and QHS customers).
+fn class_rate(class: Class, contract: &Contract, bill: &Bill) -> i64 {
     let baseline_part = part(baseline_parameters(contract.fuel), bill);
-    match class_of_bill(contract.certificate, bill.first_day) {
+    match class {
         Class::Baseline => TICKS_PER_MIL * baseline_part,
         Class::Etii => {
             let etii_part = part(etii_parameters(contract.fuel), bill);
@@ -122,12 +180,12 @@ pub fn rate(contract: &Contract, bill: &Bill) -> i64 {
     }
 }
 
-/// The cap of a bill's class in ticks: the Maximum Discounts in the class's weights
-/// (guidance, section 3.3, "Maximum Discount"), or for QHS, which has none, the supply
-/// price less the minimum supply price.
-pub fn cap(contract: &Contract, bill: &Bill) -> i64 {
+/// The cap of a class in ticks: the Maximum Discounts in the class's weights (guidance,
+/// section 3.3, "Maximum Discount"), or for QHS, which has none, the supply price less the
+/// minimum supply price.
+fn class_cap(class: Class, contract: &Contract, bill: &Bill) -> i64 {
     let baseline_maximum = baseline_parameters(contract.fuel).maximum_discount;
-    match class_of_bill(contract.certificate, bill.first_day) {
+    match class {
         Class::Baseline => TICKS_PER_MIL * baseline_maximum,
         Class::Etii => {
             let etii_maximum = etii_parameters(contract.fuel).maximum_discount;
@@ -138,12 +196,6 @@ pub fn cap(contract: &Contract, bill: &Bill) -> i64 {
             TICKS_PER_MIL * (bill.supply_price - minimum_price).max(0)
         }
     }
-}
-
-/// The amount of a bill in ten-thousandths of a penny: kWh times rate. The rate "applies to
-/// all Customer consumption" of the billing period (guidance, section 3.4, examples).
-pub fn amount(contract: &Contract, bill: &Bill) -> i64 {
-    bill.kwh * rate(contract, bill)
 }
 
 /// Regulation 29(2), max{min(BD, MD, (SP − MP)), 0}, in mils, where the base discount BD is

@@ -1,8 +1,9 @@
-//! The refusals' numbers (document 01, section "Turned down, in checking order").
+//! The refusals' numbers (document 01, section "Turned down, in checking order"; number 14
+//! is document 02's, paper 1).
 
 /// The program's line can't be read.
 pub const UNREADABLE_LINE: u32 = 1;
-/// The ledger isn't well formed; for start: isn't 18,760 bytes.
+/// The ledger isn't well formed; for start: isn't 25,928 bytes.
 pub const LEDGER_NOT_WELL_FORMED: u32 = 2;
 /// The book of a bill or rebill isn't 1,740 entries or has one above 999,999.
 pub const WRONG_BOOK: u32 = 3;
@@ -27,9 +28,11 @@ pub const PRICE_NOT_PUBLISHED: u32 = 11;
 pub const ROWS_FULL: u32 = 12;
 /// 1,000 claims were made already.
 pub const CLAIMS_USED_UP: u32 = 13;
+/// The two shares exceed kWh; tested after number 8.
+pub const SHARES_EXCEED_KWH: u32 = 14;
 
 /// The highest refusal number.
-pub const LAST_REFUSAL: u32 = CLAIMS_USED_UP;
+pub const LAST_REFUSAL: u32 = SHARES_EXCEED_KWH;
 
 /// Refuses by the number where the condition holds.
 pub(crate) fn refuse_if(condition: bool, number: u32) -> Result<(), u32> {

@@ -1,10 +1,10 @@
 //! The well-formed ledgers: one function for each clause of document 01, section "The packed
-//! ledger, 18,760 bytes", paragraph "Well formed". The clause on the length stands with
-//! `packed::unpack`.
+//! ledger", paragraph "Well formed", and of document 02, paper 1. The clause on the length
+//! stands with `packed::unpack`.
 
 use crate::codes::{
-    contract_days_in_range, effective_day_in_range, kind_in_its_place, span_in_range, Territory,
-    HIGHEST_PRICE, MOST_KWH,
+    contract_days_in_range, effective_day_in_range, kind_in_its_place, shares_exceed_kwh,
+    span_in_range, Territory, HIGHEST_PRICE, MOST_KWH,
 };
 use crate::dates::LAST_DAY;
 use crate::facts::{CONTRACTS, MOST_CLAIMS};
@@ -18,8 +18,10 @@ pub(crate) fn is_well_formed(ledger: &LedgerNumbers) -> bool {
         && contracts_not_open_are_zeros(ledger)
         && rows_not_held_are_zeros(ledger)
         && the_four_last_bits_of_contracts_are_zeros(ledger)
+        && the_two_last_bits_of_rows_are_zeros(ledger)
         && open_contracts_keep_their_ranges(ledger)
         && held_rows_keep_their_ranges(ledger)
+        && shares_of_held_rows_do_not_exceed_kwh(ledger)
         && contracts_of_held_rows_are_open(ledger)
         && reference_price_is_0_only_for_flexible(ledger)
         && amounts_are_kwh_times_rate(ledger)
@@ -50,6 +52,10 @@ fn the_four_last_bits_of_contracts_are_zeros(ledger: &LedgerNumbers) -> bool {
     ledger.contracts.iter().all(|contract| contract.zeros == 0)
 }
 
+fn the_two_last_bits_of_rows_are_zeros(ledger: &LedgerNumbers) -> bool {
+    ledger.rows.iter().all(|row| row.zeros == 0)
+}
+
 /// The ranges of numbers 6 and 7 of open and cert.
 fn open_contracts_keep_their_ranges(ledger: &LedgerNumbers) -> bool {
     let Some(territory) = Territory::of(ledger.territory) else {
@@ -76,6 +82,11 @@ fn held_rows_keep_their_ranges(ledger: &LedgerNumbers) -> bool {
     })
 }
 
+fn shares_of_held_rows_do_not_exceed_kwh(ledger: &LedgerNumbers) -> bool {
+    let mut rows = ledger.held_rows();
+    rows.all(|row| !shares_exceed_kwh(row.etii_share, row.qhs_share, row.kwh))
+}
+
 fn contracts_of_held_rows_are_open(ledger: &LedgerNumbers) -> bool {
     let mut rows = ledger.held_rows();
     rows.all(|row| contract_of(ledger, row).is_some())
@@ -88,6 +99,7 @@ fn reference_price_is_0_only_for_flexible(ledger: &LedgerNumbers) -> bool {
     rows.all(|row| row.reference_price != 0 || flexible(row))
 }
 
+/// Summed over the three shares.
 fn amounts_are_kwh_times_rate(ledger: &LedgerNumbers) -> bool {
     let is_kwh_times_rate = |numbers: &RowNumbers| {
         let row = numbers.row();

@@ -2,7 +2,8 @@
 
 use calculator::dates::day_number;
 use calculator::rates::{
-    cap, class_of_bill, rate, Bill, Certificate, Class, Contract, Fuel, Kind, NEW_QHS_MINIMUM_DAY,
+    amount, cap, class_of_bill, rate, Bill, Certificate, Class, Contract, Fuel, Kind,
+    NEW_QHS_MINIMUM_DAY,
 };
 
 const ETII: Certificate = Certificate::Etii { effective_day: 486 };
@@ -21,7 +22,7 @@ const fn fixed_entered_on(entry_day: u32) -> Kind {
     }
 }
 
-/// The cap of a flexible contract's bill on day 600.
+/// The cap of a flexible contract's bill of 1 kWh on day 600.
 fn cap_of(fuel: Fuel, certificate: Certificate, supply_price: i64) -> i64 {
     let contract = Contract {
         fuel,
@@ -33,6 +34,7 @@ fn cap_of(fuel: Fuel, certificate: Certificate, supply_price: i64) -> i64 {
         kwh: 1,
         reference_price: 0,
         supply_price,
+        ..Bill::default()
     };
     cap(&contract, &bill)
 }
@@ -50,6 +52,7 @@ fn qhs_minimum_price(fuel: Fuel, kind: Kind, first_day: u32) -> i64 {
             kwh: 1,
             reference_price: 999_999,
             supply_price: *supply_price,
+            ..Bill::default()
         };
         rate(&contract, &bill) > 0
     };
@@ -88,6 +91,7 @@ fn a_bill_before_the_effective_day_has_the_baseline_rate_and_cap() {
             kwh: 1,
             reference_price: 31_980,
             supply_price: 67_030,
+            ..Bill::default()
         };
         assert_eq!(rate(&contract, &bill), 17_800);
         assert_eq!(cap(&contract, &bill), 19_610);
@@ -146,6 +150,7 @@ fn baseline_and_etii_discounts_start_above_their_prices() {
                 kwh: 1,
                 reference_price,
                 supply_price,
+                ..Bill::default()
             };
             rate(&contract, &bill)
         };
@@ -180,26 +185,35 @@ fn flexible_contracts() -> impl Iterator<Item = Contract> {
     })
 }
 
-/// Bills over a grid of prices, before and after the change of the QHS minimum.
-fn grid_of_bills() -> impl Iterator<Item = Bill> {
-    let prices = || (0..60_000).step_by(509).chain([999_999]);
+/// Bills of 1,000 kWh with and without shares, before and after the change of the QHS
+/// minimum.
+fn bills_at(reference_price: i64, supply_price: i64) -> impl Iterator<Item = Bill> {
     [791, 792].into_iter().flat_map(move |first_day| {
-        prices().flat_map(move |reference_price| {
-            prices().map(move |supply_price| Bill {
-                first_day,
-                kwh: 1,
-                reference_price,
-                supply_price,
-            })
+        let shares = [(0, 0), (300, 0), (0, 200), (300, 200), (400, 600)];
+        shares.map(|(etii_share, qhs_share)| Bill {
+            first_day,
+            kwh: 1_000,
+            etii_share,
+            qhs_share,
+            reference_price,
+            supply_price,
         })
     })
 }
 
+/// Bills over a grid of prices.
+fn grid_of_bills() -> impl Iterator<Item = Bill> {
+    let prices = || (0..60_000).step_by(509).chain([999_999]);
+    prices().flat_map(move |reference_price| {
+        prices().flat_map(move |supply_price| bills_at(reference_price, supply_price))
+    })
+}
+
 #[test]
-fn no_rate_is_negative_or_above_its_cap() {
+fn no_amount_is_negative_or_above_its_cap() {
     for contract in flexible_contracts() {
         for bill in grid_of_bills() {
-            let found = rate(&contract, &bill);
+            let found = amount(&contract, &bill);
             assert!(found >= 0, "{contract:?} {bill:?}");
             assert!(found <= cap(&contract, &bill), "{contract:?} {bill:?}");
         }
@@ -209,16 +223,9 @@ fn no_rate_is_negative_or_above_its_cap() {
 #[test]
 fn the_highest_prices_reach_every_cap() {
     for contract in flexible_contracts() {
-        let bill = Bill {
-            first_day: 792,
-            kwh: 1,
-            reference_price: 999_999,
-            supply_price: 999_999,
-        };
-        assert_eq!(
-            rate(&contract, &bill),
-            cap(&contract, &bill),
-            "{contract:?}"
-        );
+        for bill in bills_at(999_999, 999_999) {
+            let reached = amount(&contract, &bill) == cap(&contract, &bill);
+            assert!(reached, "{contract:?} {bill:?}");
+        }
     }
 }

@@ -45,6 +45,7 @@ fn fixed_price_contract_baseline_support() {
         kwh: 1,
         reference_price: 43_810,
         supply_price: 91_200,
+        ..Bill::default()
     };
     assert_eq!(rate(&contract, &bill), 19_610);
 }
@@ -64,6 +65,7 @@ fn fixed_price_contract_etii_support() {
         kwh: 4_041,
         reference_price: 32_330,
         supply_price: 61_200,
+        ..Bill::default()
     };
     let exact_rate = rate(&contract, &bill);
     assert_eq!(exact_rate, 5_883 + 62_300);
@@ -90,6 +92,7 @@ fn fixed_price_contract_qhs_support() {
         kwh: 244_220,
         reference_price: 7_610,
         supply_price: 11_630,
+        ..Bill::default()
     };
     assert_eq!(rate(&contract, &bill), 38_000);
     assert_eq!(amount(&contract, &bill), 9_280_360_000);
@@ -114,6 +117,7 @@ fn variable_price_contract_qhs_support() {
         kwh: 1,
         reference_price: 4_200,
         supply_price: 10_000,
+        ..Bill::default()
     };
     assert_eq!(rate(&contract, &bill), 35_000);
 }
@@ -135,6 +139,7 @@ fn variable_price_contract_baseline_support() {
                 kwh: 1,
                 reference_price,
                 supply_price,
+                ..Bill::default()
             };
             assert_eq!(rate(&contract, &bill), 0);
         }
@@ -154,6 +159,7 @@ fn flexible_price_contract_baseline_support() {
         kwh: 1,
         reference_price: 31_980,
         supply_price: 67_030,
+        ..Bill::default()
     };
     assert_eq!(rate(&contract, &bill), 17_800);
 }
@@ -172,6 +178,7 @@ fn flexible_price_contract_etii_support() {
         kwh: 1,
         reference_price: 35_000,
         supply_price: 58_330,
+        ..Bill::default()
     };
     assert_eq!(rate(&contract, &bill), 68_183);
 }
@@ -193,6 +200,7 @@ fn blend_and_extend_lowers_only_the_supply_price() {
             kwh: 1,
             reference_price: 43_810,
             supply_price,
+            ..Bill::default()
         };
         assert_eq!(rate(&contract, &bill), expected);
     }
@@ -221,6 +229,7 @@ fn intermediary_discount_apportionment() {
             kwh,
             reference_price: 11_170,
             supply_price: 15_190,
+            ..Bill::default()
         };
         assert_eq!(rate(&contract, &bill), expected_rate);
         assert_eq!(printed_pence(amount(&contract, &bill)), expected_pence);
@@ -229,4 +238,25 @@ fn intermediary_discount_apportionment() {
     }
     assert_eq!(total_kwh, 3_235_000);
     assert_eq!(printed_pence(total_amount), 10_046_293);
+}
+
+/// The same table as one bill with an ETII and a QHS share (document 02, paper 1).
+#[test]
+fn intermediary_discount_on_one_bill() {
+    let contract = Contract {
+        fuel: Fuel::Gas,
+        kind: Kind::Flexible,
+        certificate: Certificate::None,
+    };
+    let bill = Bill {
+        first_day: SCHEME_INTRODUCTION_DAY,
+        kwh: 3_235_000,
+        etii_share: 1_294_000,
+        qhs_share: 1_132_250,
+        reference_price: 11_170,
+        supply_price: 15_190,
+    };
+    assert_eq!(rate(&contract, &bill), 4_700);
+    assert_eq!(amount(&contract, &bill), 100_462_925_000);
+    assert_eq!(printed_pence(amount(&contract, &bill)), 10_046_293);
 }

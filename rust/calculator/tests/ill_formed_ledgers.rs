@@ -1,5 +1,5 @@
-//! Ledgers that break one clause of document 01's paragraph "Well formed" each, beside
-//! neighbours that keep it.
+//! Ledgers that break one clause of document 01's paragraph "Well formed" or of document 02,
+//! paper 1, each, beside neighbours that keep it.
 
 mod common;
 
@@ -19,9 +19,9 @@ fn ledger() -> LedgerNumbers {
         "cert 0 1 486",
         "open 1 1 0 700 851",
         "open 2 0 3 0 0",
-        "bill 0 486 515 1000 67030 31980",
-        "bill 0 516 546 1000 67030 31980",
-        "bill 1 486 515 1000 67030 0",
+        "bill 0 486 515 1000 67030 31980 0 0",
+        "bill 0 516 546 1000 67030 31980 0 0",
+        "bill 1 486 515 1000 67030 0 0 0",
         "claim",
     ] {
         let outcome = call_on_bytes(&mut bytes, &book, &call(line));
@@ -113,14 +113,17 @@ fn a_contract_not_open_is_all_zeros() {
 
 #[test]
 fn a_row_not_held_is_all_zeros() {
-    let edits: [fn(&mut RowNumbers); 7] = [
+    let edits: [fn(&mut RowNumbers); 10] = [
         |row| row.contract = 1,
         |row| row.first_day = 1,
         |row| row.last_day = 1,
         |row| row.kwh = 1,
+        |row| row.etii_share = 1,
+        |row| row.qhs_share = 1,
         |row| row.reference_price = 1,
         |row| row.supply_price = 1,
         |row| row.amount = 1,
+        |row| row.zeros = 1,
     ];
     for edit in edits {
         assert!(!is_well_formed(|ledger| edit(&mut ledger.rows[1_023])));
@@ -134,6 +137,15 @@ fn the_four_last_bits_of_any_contract_are_zeros() {
             assert!(!is_well_formed(
                 |ledger| ledger.contracts[contract].zeros = zeros
             ));
+        }
+    }
+}
+
+#[test]
+fn the_two_last_bits_of_any_row_are_zeros() {
+    for row in [0, 1, 2, 3, 1_023] {
+        for zeros in [1, 2, 3] {
+            assert!(!is_well_formed(|ledger| ledger.rows[row].zeros = zeros));
         }
     }
 }
@@ -225,6 +237,34 @@ fn every_held_row_has_kwh_and_prices_in_range() {
 }
 
 #[test]
+fn the_shares_of_a_held_row_do_not_exceed_its_kwh() {
+    let highest = (1 << 27) - 1;
+    for (kwh, etii_share, qhs_share, well_formed) in [
+        (1_000, 1_000, 0, true),
+        (1_000, 0, 1_000, true),
+        (1_000, 400, 600, true),
+        (1_000, 1_001, 0, false),
+        (1_000, 0, 1_001, false),
+        (1_000, 400, 601, false),
+        (0, 1, 0, false),
+        (0, 0, 1, false),
+        (1_000, highest, 1, false),
+        (1_000, 1, highest, false),
+        (100_000_000, 50_000_000, 50_000_000, true),
+        (100_000_000, 50_000_000, 50_000_001, false),
+        (100_000_000, highest, highest, false),
+    ] {
+        // at S 0 every class's rate is 0, so that the amount is 0 for any shares
+        let edit = |row: &mut RowNumbers| {
+            (row.kwh, row.supply_price) = (kwh, 0);
+            (row.etii_share, row.qhs_share) = (etii_share, qhs_share);
+        };
+        let found = row_is_well_formed(edit);
+        assert_eq!(found, well_formed, "{kwh} {etii_share} {qhs_share}");
+    }
+}
+
+#[test]
 fn the_contract_of_a_held_row_is_open() {
     assert!(!is_well_formed(|ledger| ledger.rows[2].contract = 3));
     assert!(!is_well_formed(
@@ -257,6 +297,30 @@ fn the_amount_is_kwh_times_rate() {
     let certificate_starts = |day| is_well_formed(|ledger| ledger.contracts[0].effective_day = day);
     assert!(certificate_starts(486));
     assert!(!certificate_starts(487));
+}
+
+#[test]
+fn the_amount_is_the_sum_over_the_shares_whatever_the_certificate() {
+    let with_shares = |etii_share, qhs_share, amount, effective_day| {
+        is_well_formed(|ledger| {
+            ledger.rows[1] = ledger.rows[2];
+            ledger.rows[2] = RowNumbers::default();
+            ledger.contracts[0].effective_day = effective_day;
+            let row = &mut ledger.rows[0];
+            (row.etii_share, row.qhs_share, row.amount) = (etii_share, qhs_share, amount);
+        })
+    };
+    for effective_day in [486, 487] {
+        assert!(with_shares(300, 200, 93_152_000, effective_day));
+        assert!(!with_shares(300, 200, 93_152_001, effective_day));
+        assert!(!with_shares(200, 300, 93_152_000, effective_day));
+        assert!(with_shares(300, 0, 32_752_000, effective_day));
+        // the rest at the ETII rate
+        assert!(!with_shares(300, 0, 67_640_000, effective_day));
+        assert!(!with_shares(0, 200, 118_072_000, effective_day));
+    }
+    assert!(with_shares(0, 0, 67_640_000, 486));
+    assert!(!with_shares(0, 0, 67_640_000, 487));
 }
 
 #[test]

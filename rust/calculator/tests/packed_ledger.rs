@@ -46,32 +46,36 @@ fn the_fields_stand_in_the_papers_order() {
         "open 2 1 0 700 851",
         "cert 2 1 600",
         "open 63 0 2 0 0",
-        "bill 63 486 515 1000 67030 31980",
+        "bill 63 486 515 1000 67030 31980 300 200",
         "claim",
         "claim",
     ]);
-    let header = bytes_of(&format!("1{:016b}{:047b}", 2, 1_780));
+    let header = bytes_of(&format!("1{:016b}{:047b}", 2, 9_315));
     assert_eq!(ledger[..8], header);
     let fixed = format!("1100{:010b}{:010b}01{:010b}0000", 700, 851, 600);
     assert_eq!(ledger[8 + 2 * 5..8 + 3 * 5], bytes_of(&fixed));
     let flexible = format!("1010{:036b}", 0);
     assert_eq!(ledger[8 + 63 * 5..8 + 64 * 5], bytes_of(&flexible));
     let days = format!("1{:06b}{:010b}{:010b}", 63, 486, 515);
-    let prices = format!("{:027b}{:020b}{:020b}", 1_000, 31_980, 67_030);
-    let row = bytes_of(&format!("{days}{prices}{:050b}", 17_800_000));
-    assert_eq!(ledger[328..328 + 18], row);
-    let other_bytes = [&ledger[8..18], &ledger[23..323], &ledger[346..]].concat();
+    let kwh = format!("{:027b}{:027b}{:027b}", 1_000, 300, 200);
+    let prices = format!("{:020b}{:020b}", 31_980, 67_030);
+    let row = bytes_of(&format!("{days}{kwh}{prices}{:050b}00", 93_152_000));
+    assert_eq!(ledger[328..328 + 25], row);
+    let other_bytes = [&ledger[8..18], &ledger[23..323], &ledger[353..]].concat();
     assert!(other_bytes.iter().all(|&byte| byte == 0));
 }
 
-/// 1,024 rows of the highest amounts under 64 contracts, added in descending order.
+/// 1,024 rows of the most kWh at the highest prices under 64 contracts, added in descending
+/// order; a share has all kWh or none.
 fn full_ledger() -> Facts {
     let mut lines = Vec::new();
     for contract in (0..64).rev() {
         lines.push(format!("open {contract} 1 2 0 0"));
         lines.push(format!("cert {contract} 2 511"));
-        let bill = |day| format!("bill {contract} {day} {day} 100000000 999999 999999");
-        lines.extend((792..808).rev().map(bill));
+        let bill =
+            |(day, shares)| format!("bill {contract} {day} {day} 100000000 999999 999999 {shares}");
+        let shares = ["0 0", "100000000 0", "0 100000000"].into_iter().cycle();
+        lines.extend((792..808).rev().zip(shares).map(bill));
     }
     let lines: Vec<&str> = lines.iter().map(String::as_str).collect();
     facts_after(&lines)
@@ -112,9 +116,9 @@ fn the_papers_run_leaves_its_claims_and_no_row() {
 
 #[test]
 fn a_refused_call_changes_no_byte() {
-    let before = ledger_after(&["open 0 0 2 0 0", "bill 0 486 515 1000 67030 31980"]);
+    let before = ledger_after(&["open 0 0 2 0 0", "bill 0 486 515 1000 67030 31980 0 0"]);
     let mut ledger = before.clone();
-    for (line, number) in [("start 2", 6), ("bill 0 515 515 1 1 1", 10)] {
+    for (line, number) in [("start 2", 6), ("bill 0 515 515 1 1 1 0 0", 10)] {
         let answered = call_on_bytes(&mut ledger, &NO_PRICES, &call(line));
         assert_eq!(answered, Err(number), "{line}");
         assert_eq!(ledger, before, "{line}");
@@ -123,9 +127,9 @@ fn a_refused_call_changes_no_byte() {
 
 #[test]
 fn a_ledger_of_a_wrong_length_is_refused_before_all_else() {
-    for length in [0, 1, 18_759, 18_761] {
+    for length in [0, 1, 18_760, 25_927, 25_929] {
         let mut ledger = vec![0; length];
-        for line in ["start 2", "bill 64 0 0 0 0 0", "total"] {
+        for line in ["start 2", "bill 64 0 0 0 0 0 0 0", "total"] {
             let answered = call_on_bytes(&mut ledger, &[], &call(line));
             assert_eq!(answered, Err(2), "{line} on {length} bytes");
         }

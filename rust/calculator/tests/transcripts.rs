@@ -78,6 +78,12 @@ fn names_spaces_and_counts() {
         b"cert 0 1",
         b"open 0 0 2 0",
         b"bill 0 486 515 1 1",
+        b"bill 0 486 515 1 1 1",
+        b"bill 0 486 515 1 1 1 0",
+        b"bill 0 486 515 1 1 1 0 0 0",
+        b"rebill 0 486 515 1 1 1",
+        b"rebill 0 486 515 1 1 1 0",
+        b"rebill 0 486 515 1 1 1 0 0 0",
     ]);
 }
 
@@ -124,7 +130,7 @@ fn days_and_dates() {
 fn start_keeps_the_book_and_a_refused_price_changes_nothing() {
     let prices = "price 1739 0\nprice 1740 0\nprice 1716 999999\nprice 1716 1000000\n";
     assert_eq!(printed(prices), "ok\nrefused 8\nok\nrefused 8\n");
-    let bill = "open 0 1 1 0 0\nbill 0 486 486 1 99999 0\n";
+    let bill = "open 0 1 1 0 0\nbill 0 486 486 1 99999 0 0 0\n";
     let billed = "ok\nok 999999 6970 6970\n";
     let printed = printed(&format!("{prices}{bill}start 1\ntotal\n{bill}"));
     let expected = format!("ok\nrefused 8\nok\nrefused 8\n{billed}ok\nok 0 0\n{billed}");

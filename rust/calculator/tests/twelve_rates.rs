@@ -35,6 +35,7 @@ impl Case {
             kwh: 1,
             reference_price: self.reference_price,
             supply_price: self.supply_price,
+            ..Bill::default()
         };
         assert_eq!(rate(&contract, &bill), self.expected, "{}", self.name);
     }
@@ -101,6 +102,7 @@ fn the_printed_etii_rate_is_not_used() {
         kwh: 1_000,
         reference_price: 35_000,
         supply_price: 58_330,
+        ..Bill::default()
     };
     assert_eq!(amount(&contract, &bill), 68_183_000);
 }
