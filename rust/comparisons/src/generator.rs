@@ -8,7 +8,7 @@ use calculator::codes::{spans_share_a_day, Territory, HIGHEST_PRICE, MOST_KWH, S
 use calculator::dates::LAST_DAY;
 use calculator::facts::CONTRACTS;
 use calculator::packed::{Facts, Row};
-use calculator::rates::Kind;
+use calculator::rates::{Kind, NEW_QHS_MINIMUM_DAY};
 
 /// Draws a call on a ledger with these facts.
 type Draw = fn(&mut Random, &Facts) -> Call;
@@ -65,6 +65,10 @@ const BOUNDARY_PRICES: [u32; 14] = [
     999_998,
 ];
 
+/// Shares for which a row's 27 bits have no room; a sum with one of the last two may need
+/// more than 32.
+const HIGH_SHARES: [u32; 3] = [1 << 27, 1 << 31, u32::MAX];
+
 /// Numbers that some field can't have, or only just can.
 const WILD_NUMBERS: [u32; 16] = [
     0,
@@ -87,6 +91,9 @@ const WILD_NUMBERS: [u32; 16] = [
 
 /// One call in that many has a number that doesn't fit.
 const DISTURBED_ONCE_IN: usize = 10;
+
+/// One rebill in that many has a span that has nothing to do with the row.
+const OTHER_SPAN_ONCE_IN: usize = 10;
 
 /// The days of the longest bill, and of the longest among many.
 const MOST_DAYS: u32 = 40;
@@ -147,13 +154,17 @@ fn open(random: &mut Random, facts: &Facts) -> Call {
         &[0, 1, 2, 2]
     };
     let kind = random.one_of(kinds);
-    let day = |random: &mut Random| if kind == 0 { contract_day(random) } else { 0 };
+    let contract = number_of(random, &contract_numbers(facts, false));
+    let (price_fix_day, entry_day) = match kind {
+        0 => (contract_day(random), entry_day(random)),
+        _ => (0, 0),
+    };
     Call::Open {
-        contract: number_of(random, &contract_numbers(facts, false)),
+        contract,
         fuel,
         kind,
-        price_fix_day: day(random),
-        entry_day: day(random),
+        price_fix_day,
+        entry_day,
     }
 }
 
@@ -171,11 +182,16 @@ fn bill_of_days(random: &mut Random, facts: &Facts, most_days: u32) -> Call {
     Call::Bill(bill_numbers(random, facts, contract, span))
 }
 
+/// The rebill of a held row, at times of a span that no row begins.
 fn rebill(random: &mut Random, facts: &Facts) -> Call {
     let Some(row) = held_row(random, facts) else {
         return bill(random, facts);
     };
-    let (first, last) = row.span();
+    let (first, last) = if random.once_in(OTHER_SPAN_ONCE_IN) {
+        any_span(random, MOST_DAYS)
+    } else {
+        row.span()
+    };
     let last = match random.below(4) {
         0 => random.within(first..=LAST_DAY),
         1 => first,
@@ -243,6 +259,7 @@ fn bill_numbers(
         1 => random.within(0..=MOST_KWH),
         _ => random.within(0..=99_999),
     };
+    let (etii_share, qhs_share) = random_shares(random, kwh);
     let terms = facts.contracts.get(contract as usize).copied().flatten();
     let flexible = terms.is_some_and(|terms| terms.kind == Kind::Flexible);
     BillNumbers {
@@ -252,6 +269,45 @@ fn bill_numbers(
         kwh,
         supply: random_price(random),
         wap: if flexible { random_price(random) } else { 0 },
+        etii_share,
+        qhs_share,
+    }
+}
+
+/// The ETII share and the QHS share of a bill of that many kWh: none, either or both, at
+/// times all kWh or more.
+fn random_shares(random: &mut Random, kwh: u32) -> (u32, u32) {
+    let share = random.within(0..=kwh);
+    match random.below(20) {
+        0..11 => (0, 0),
+        11 | 12 => (share, 0),
+        13 | 14 => (0, share),
+        15 | 16 => (share, random.within(0..=kwh - share)),
+        17 | 18 => random.one_of(&[(kwh, 0), (0, kwh), (share, kwh - share)]),
+        _ => {
+            let high = random.one_of(&HIGH_SHARES);
+            shares_above(random, kwh, high)
+        }
+    }
+}
+
+/// The ETII share and the QHS share, which exceed kWh: by one, or with a high share, which is
+/// above any kWh.
+pub fn shares_above(random: &mut Random, kwh: u32, high: u32) -> (u32, u32) {
+    let share = random.within(0..=kwh);
+    let (one, other) = random.one_of(&[
+        (kwh + 1, 0),
+        (kwh, 1),
+        (share, kwh - share + 1),
+        (high, 0),
+        (high, 1),
+        (high, share + 1),
+        (high, high),
+    ]);
+    if random.once_in(2) {
+        (one, other)
+    } else {
+        (other, one)
     }
 }
 
@@ -288,6 +344,15 @@ fn contract_day(random: &mut Random) -> u32 {
     }
 }
 
+/// A day of entry, often one from which the new QHS minimum applies.
+fn entry_day(random: &mut Random) -> u32 {
+    if random.once_in(3) {
+        random.within(NEW_QHS_MINIMUM_DAY..=LAST_DAY)
+    } else {
+        contract_day(random)
+    }
+}
+
 fn first_day(random: &mut Random) -> u32 {
     if random.once_in(4) {
         random.one_of(&BOUNDARY_DAYS)
@@ -313,4 +378,33 @@ fn any_span(random: &mut Random, most_days: u32) -> (u32, u32) {
     let first = first_day(random);
     let last = first + random.within(0..=most_days - 1);
     (first, last.min(LAST_DAY))
+}
+
+#[cfg(test)]
+mod tests {
+    use super::{random_shares, HIGH_SHARES};
+    use crate::random::Random;
+    use std::collections::BTreeSet;
+
+    #[test]
+    fn shares_at_every_edge_of_kwh_are_drawn() {
+        let mut random = Random::new(1, "shares", 0);
+        let drawn: BTreeSet<(u32, u32)> = (0..20_000)
+            .map(|_| random_shares(&mut random, 1_000))
+            .collect();
+        let whole = [(0, 0), (1_000, 0), (1_001, 0), (1_000, 1)];
+        let high = HIGH_SHARES.map(|high| [(high, 0), (high, 1), (high, high)]);
+        for (one, other) in whole.into_iter().chain(high.concat()) {
+            assert!(drawn.contains(&(one, other)), "{one} {other}");
+            assert!(drawn.contains(&(other, one)), "{other} {one}");
+        }
+        let both = |sum| {
+            move |&(etii_share, qhs_share): &(u32, u32)| {
+                etii_share.min(qhs_share) > 1 && etii_share.checked_add(qhs_share) == Some(sum)
+            }
+        };
+        for sum in [999, 1_000, 1_001] {
+            assert!(drawn.iter().any(both(sum)), "{sum}");
+        }
+    }
 }

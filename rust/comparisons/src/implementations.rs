@@ -79,6 +79,8 @@ fn library_numbers(numbers: BillNumbers) -> ebds::BillNumbers {
         kwh: numbers.kwh,
         supply: numbers.supply,
         wap: numbers.wap,
+        etii_share: numbers.etii_share,
+        qhs_share: numbers.qhs_share,
     }
 }
 
@@ -90,5 +92,7 @@ fn twin_numbers(numbers: BillNumbers) -> twin::BillNumbers {
         kwh: numbers.kwh,
         supply: numbers.supply,
         wap: numbers.wap,
+        etii_share: numbers.etii_share,
+        qhs_share: numbers.qhs_share,
     }
 }

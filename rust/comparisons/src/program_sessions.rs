@@ -8,17 +8,17 @@ use crate::session_text::random_session;
 use calculator::session::{transcript, INPUT_BYTES};
 use std::ops::RangeInclusive;
 
-/// Document 01's run.
+/// Document 01's run, with shares of 0.
 const PAPER_RUN: &[u8] = b"open 0 0 2 0 0
-bill 0 486 515 1000 67030 31980
+bill 0 486 515 1000 67030 31980 0 0
 claim
 cert 0 1 486
 claim
-rebill 0 486 515 901 67030 31980
+rebill 0 486 515 901 67030 31980 0 0
 claim
 cancel 0 486
 total
-bill 64 486 515 1 1 1
+bill 64 486 515 1 1 1 0 0
 ";
 
 /// Sessions of one kind.

@@ -54,12 +54,13 @@ const MOST_RANDOM_BYTES: usize = 40;
 pub fn changed_line(random: &mut Random, line: &str) -> Vec<u8> {
     let mut words: Vec<&[u8]> = line.as_bytes().split(|&byte| byte == b' ').collect();
     let place = random.below(words.len());
-    match random.below(6) {
+    match random.below(7) {
         0 => return with_piece(random, line),
         1 => return random_bytes(random),
         2 => words[place] = random.one_of(&WORDS),
         3 => words.push(random.one_of(&WORDS)),
         4 => words.insert(place, words[place]),
+        5 => words.truncate(place),
         _ => drop(words.remove(place)),
     }
     words.join(&b' ')
@@ -74,4 +75,27 @@ fn random_bytes(random: &mut Random) -> Vec<u8> {
     let count = random.below(MOST_RANDOM_BYTES);
     let bytes = (0..count).map(|_| random.number() as u8);
     bytes.filter(|&byte| byte != b'\n').collect()
+}
+
+#[cfg(test)]
+mod tests {
+    use super::changed_line;
+    use crate::random::Random;
+    use std::collections::BTreeSet;
+
+    /// How many numbers a bill's line has, if it has nothing else.
+    fn numbers_of_bill(line: &[u8]) -> Option<usize> {
+        let mut words = std::str::from_utf8(line).ok()?.split(' ');
+        let all_numbers =
+            words.next() == Some("bill") && words.clone().all(|word| word.parse::<u32>().is_ok());
+        all_numbers.then(|| words.count())
+    }
+
+    #[test]
+    fn a_bill_gets_every_count_of_numbers_up_to_one_more() {
+        let mut random = Random::new(1, "lines", 0);
+        let lines = (0..2_000).map(|_| changed_line(&mut random, "bill 1 2 3 4 5 6 7 8"));
+        let counts: BTreeSet<usize> = lines.filter_map(|line| numbers_of_bill(&line)).collect();
+        assert_eq!(counts, (0..=9).collect());
+    }
 }
