@@ -7,6 +7,7 @@ use crate::compared_calls::{compare_call, LedgerCall};
 use crate::counts::Findings;
 use crate::generator::{random_call, start, Profile, CLAIMING, FILLING, MIXED};
 use crate::random::Random;
+use calculator::calls::Call;
 use calculator::codes::Territory;
 use calculator::packed::{unpack, Facts, LEDGER_BYTES};
 
@@ -22,7 +23,7 @@ struct Histories {
 const HISTORIES: [Histories; 3] = [
     Histories {
         kind: "mixed histories",
-        count: 800,
+        count: 1_600,
         calls: 70,
         profile: MIXED,
     },
@@ -67,7 +68,11 @@ fn compare_history(findings: &mut Findings, histories: &Histories, seed: u64, nu
         ledger = compare_call(findings, &ledger_call, || {
             format!("seed {seed}, {kind}, number {number}, call {step}")
         });
-        facts = unpack(&ledger).expect("a history leaves a well-formed ledger");
+        let left = unpack(&ledger).expect("a history leaves a well-formed ledger");
+        if let Call::Cert { contract, .. } = call {
+            findings.rows.count_certificate(contract, &facts, &left);
+        }
+        facts = left;
         call = random_call(&mut random, &facts, histories.profile);
     }
     findings.rows.count(&facts);

@@ -1,7 +1,10 @@
-//! The rows that histories leave, by fuel, kind and class.
+//! The rows that histories leave, by fuel, kind and class; rows with shares by their shares,
+//! the class that is set aside and the QHS minimum; the certificates that re-rated rows beside
+//! them.
 
-use calculator::packed::Facts;
-use calculator::rates::{class_of_bill, Class, Fuel};
+use calculator::codes::QHS_FIRST_DAY;
+use calculator::packed::{Facts, Row};
+use calculator::rates::{class_of_bill, Bill, Class, Contract, Fuel, Kind, NEW_QHS_MINIMUM_DAY};
 use std::collections::BTreeMap;
 
 /// The names of the kinds in the order of their codes.
@@ -11,7 +14,27 @@ const FUELS: [Fuel; 2] = [Fuel::Electricity, Fuel::Gas];
 
 const CLASSES: [Class; 3] = [Class::Baseline, Class::Etii, Class::Qhs];
 
-/// How many rows of each sort were held.
+const ETII_SHARE: &str = "ETII share";
+const QHS_SHARE: &str = "QHS share";
+const BOTH_SHARES: &str = "ETII and QHS share";
+
+const SHARES: [&str; 3] = [ETII_SHARE, QHS_SHARE, BOTH_SHARES];
+
+const BEFORE_CERTIFICATES: &str = "QHS share before day 511";
+const OLD_MINIMUM_KEPT: &str = "QHS share from day 792 on of a fixed contract entered before";
+const NEW_MINIMUM_FIXED: &str = "QHS share from day 792 on of a fixed contract entered since";
+const NEW_MINIMUM: &str = "QHS share from day 792 on of a contract that isn't fixed";
+
+const QHS_SHARES: [&str; 4] = [
+    BEFORE_CERTIFICATES,
+    OLD_MINIMUM_KEPT,
+    NEW_MINIMUM_FIXED,
+    NEW_MINIMUM,
+];
+
+const RE_RATED: &str = "certificate that re-rated rows beside rows with shares";
+
+/// How many rows of each sort were held, and how many certificates re-rated rows.
 #[derive(Default)]
 pub struct RowsMet {
     counts: BTreeMap<String, u64>,
@@ -23,30 +46,158 @@ impl RowsMet {
         for row in &facts.rows {
             let contract = facts.contracts[row.contract as usize];
             let contract = contract.expect("the contract of a held row is open");
-            let class = class_of_bill(contract.certificate, row.bill.first_day);
-            let (kind, _, _) = contract.kind.numbers();
-            let sort = sort_of_row(contract.fuel, KINDS[kind as usize], class);
-            *self.counts.entry(sort).or_default() += 1;
+            for sort in sorts_of_row(&contract, &row.bill) {
+                self.count_sort(sort);
+            }
         }
     }
 
-    /// Each sort of row that must be met, and how often it was; index contracts are for
-    /// electricity only.
-    pub fn required(&self) -> Vec<(String, u64)> {
-        let mut required = Vec::new();
-        for fuel in FUELS {
-            for kind in &KINDS[..if fuel == Fuel::Gas { 3 } else { 4 }] {
-                let sorts = CLASSES.map(|class| sort_of_row(fuel, kind, class));
-                required.extend(sorts.map(|sort| {
-                    let times = self.counts.get(&sort).copied().unwrap_or_default();
-                    (sort, times)
-                }));
-            }
+    /// Counts a certificate of the contract that changed amounts while the contract has a row
+    /// with shares.
+    pub fn count_certificate(&mut self, contract: u32, before: &Facts, after: &Facts) {
+        let of_contract = |row: &&Row| row.contract == contract;
+        let rows_before = before.rows.iter().filter(of_contract);
+        let rows_after = after.rows.iter().filter(of_contract);
+        let beside_shares = rows_after.clone().any(|row| row.bill.has_shares());
+        if beside_shares && !rows_before.eq(rows_after) {
+            self.count_sort(RE_RATED.to_string());
         }
-        required
+    }
+
+    fn count_sort(&mut self, sort: String) {
+        *self.counts.entry(sort).or_default() += 1;
+    }
+
+    /// Each sort that must be met, and how often it was.
+    pub fn required(&self) -> Vec<(String, u64)> {
+        let sorts = required_sorts().into_iter();
+        let counted = sorts.map(|sort| {
+            let times = self.counts.get(&sort).copied().unwrap_or_default();
+            (sort, times)
+        });
+        counted.collect()
     }
 }
 
-fn sort_of_row(fuel: Fuel, kind: &str, class: Class) -> String {
-    format!("{kind} {fuel:?} {class:?}").to_lowercase()
+/// Every sort; index contracts are for electricity only.
+fn required_sorts() -> Vec<String> {
+    let mut sorts = Vec::new();
+    for fuel in FUELS {
+        for kind in &KINDS[..if fuel == Fuel::Gas { 3 } else { 4 }] {
+            sorts.extend(CLASSES.map(|class| sort_by_contract(fuel, kind, class_name(class))));
+            sorts.extend(SHARES.map(|shares| sort_by_contract(fuel, kind, shares)));
+        }
+    }
+    for shares in SHARES {
+        sorts.extend(CLASSES.map(|class| sort_by_certificate(shares, class)));
+    }
+    sorts.extend(QHS_SHARES.map(str::to_string));
+    sorts.push(RE_RATED.to_string());
+    sorts
+}
+
+/// The sorts that a row is of.
+fn sorts_of_row(contract: &Contract, bill: &Bill) -> Vec<String> {
+    let (kind, _, _) = contract.kind.numbers();
+    let kind = KINDS[kind as usize];
+    let class = class_of_bill(contract.certificate, bill.first_day);
+    let Some(shares) = shares_of(bill) else {
+        return vec![sort_by_contract(contract.fuel, kind, class_name(class))];
+    };
+    let mut sorts = vec![
+        sort_by_contract(contract.fuel, kind, shares),
+        sort_by_certificate(shares, class),
+    ];
+    if bill.qhs_share != 0 {
+        let sort = sort_by_qhs_minimum(contract.kind, bill.first_day);
+        sorts.extend(sort.map(str::to_string));
+    }
+    sorts
+}
+
+/// The shares that aren't 0, if one isn't.
+fn shares_of(bill: &Bill) -> Option<&'static str> {
+    match (bill.etii_share != 0, bill.qhs_share != 0) {
+        (false, false) => None,
+        (true, false) => Some(ETII_SHARE),
+        (false, true) => Some(QHS_SHARE),
+        (true, true) => Some(BOTH_SHARES),
+    }
+}
+
+/// The sort of a row with a QHS share on days at which no certificate is QHS, or on which
+/// either minimum may apply.
+fn sort_by_qhs_minimum(kind: Kind, first_day: u32) -> Option<&'static str> {
+    if first_day < QHS_FIRST_DAY {
+        return Some(BEFORE_CERTIFICATES);
+    }
+    if first_day < NEW_QHS_MINIMUM_DAY {
+        return None;
+    }
+    Some(match kind {
+        Kind::Fixed { entry_day, .. } if entry_day < NEW_QHS_MINIMUM_DAY => OLD_MINIMUM_KEPT,
+        Kind::Fixed { .. } => NEW_MINIMUM_FIXED,
+        Kind::Variable | Kind::Flexible | Kind::DayAheadIndex => NEW_MINIMUM,
+    })
+}
+
+fn sort_by_contract(fuel: Fuel, kind: &str, class_or_shares: &str) -> String {
+    let fuel = match fuel {
+        Fuel::Electricity => "electricity",
+        Fuel::Gas => "gas",
+    };
+    format!("{kind} {fuel} {class_or_shares}")
+}
+
+/// The sort by the class that a bill without shares would have.
+fn sort_by_certificate(shares: &str, class: Class) -> String {
+    format!("{shares} in place of class {}", class_name(class))
+}
+
+fn class_name(class: Class) -> &'static str {
+    match class {
+        Class::Baseline => "baseline",
+        Class::Etii => "ETII",
+        Class::Qhs => "QHS",
+    }
+}
+
+#[cfg(test)]
+mod tests {
+    use super::{RowsMet, RE_RATED};
+    use calculator::calls::Call;
+    use calculator::codes::Territory;
+    use calculator::postings::PostingModule;
+
+    /// How often certificates that re-rated rows are counted for an ETII certificate of a
+    /// flexible contract with these bills: a first day and an ETII share each.
+    fn re_rated(bills: &[(u32, u32)]) -> u64 {
+        let book = [0; 1_740];
+        let mut module = PostingModule::new(Territory::GreatBritain);
+        let mut call = |name, numbers: &[u32]| {
+            let before = module.facts();
+            let call = Call::of(name, numbers).expect("a call");
+            module.call(&book, &call).expect("it is accepted");
+            (before, module.facts())
+        };
+        call("open", &[5, 0, 2, 0, 0]);
+        for &(first, etii_share) in bills {
+            call(
+                "bill",
+                &[5, first, first, 10, 67_030, 31_980, etii_share, 0],
+            );
+        }
+        let (before, after) = call("cert", &[5, 1, 500]);
+        let mut rows = RowsMet::default();
+        rows.count_certificate(5, &before, &after);
+        rows.counts.get(RE_RATED).copied().unwrap_or_default()
+    }
+
+    #[test]
+    fn a_certificate_is_counted_where_it_re_rated_rows_beside_rows_with_shares() {
+        assert_eq!(re_rated(&[(500, 0), (501, 4)]), 1);
+        assert_eq!(re_rated(&[(500, 0), (501, 0)]), 0);
+        assert_eq!(re_rated(&[(500, 3), (501, 4)]), 0);
+        assert_eq!(re_rated(&[(499, 0), (501, 4)]), 0);
+    }
 }
