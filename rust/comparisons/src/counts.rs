@@ -12,9 +12,6 @@ const FEWEST_MET: u64 = 100;
 /// The differences that are printed in full.
 const DIFFERENCES_PRINTED: u64 = 3;
 
-/// How many damaged ledgers of each kind there must be.
-const FEWEST_DAMAGED: u64 = 20;
-
 /// What was compared with the calculator on one side, the program or the library.
 pub struct Counts {
     side: &'static str,
@@ -31,6 +28,8 @@ pub struct Counts {
 /// The damaged ledgers of one kind.
 #[derive(Default)]
 pub struct DamageCounts {
+    /// How many there must be.
+    pub fewest: u64,
     pub tried: u64,
     pub still_well_formed: u64,
 }
@@ -39,9 +38,9 @@ pub struct DamageCounts {
 pub struct Findings {
     pub program: Counts,
     pub library: Counts,
-    /// The rows at the ends of the library's histories.
+    /// The rows at the ends of the library's histories, and certificates in them.
     pub rows: RowsMet,
-    damages: BTreeMap<&'static str, DamageCounts>,
+    damages: BTreeMap<String, DamageCounts>,
     differences: u64,
 }
 
@@ -117,8 +116,9 @@ impl Findings {
     }
 
     /// Counts damaged ledgers of a kind.
-    pub fn count_damage(&mut self, kind: &'static str, counts: &DamageCounts) {
-        let all = self.damages.entry(kind).or_default();
+    pub fn count_damage(&mut self, kind: &str, counts: &DamageCounts) {
+        let all = self.damages.entry(kind.to_string()).or_default();
+        all.fewest = counts.fewest;
         all.tried += counts.tried;
         all.still_well_formed += counts.still_well_formed;
     }
@@ -135,12 +135,13 @@ impl Findings {
     pub fn print(&self) {
         self.program.print();
         self.library.print();
-        println!("  rows held at the end: {}", listed(self.rows.required()));
+        println!("  rows: {}", listed(self.rows.required()));
         println!("damaged ledgers:");
         for (kind, counts) in &self.damages {
             let DamageCounts {
                 tried,
                 still_well_formed,
+                ..
             } = counts;
             println!("  {kind}: {tried}, of which still well formed {still_well_formed}");
         }
@@ -161,8 +162,8 @@ impl Findings {
         let met = calls.concat().into_iter().chain(self.rows.required());
         let met_too_few_times = met.filter(|&(_, times)| times < FEWEST_MET);
         let damages = self.damages.iter();
-        let damages = damages.map(|(kind, counts)| (kind.to_string(), counts.tried));
-        let damaged_too_few_times = damages.filter(|&(_, times)| times < FEWEST_DAMAGED);
+        let damages = damages.filter(|(_, counts)| counts.tried < counts.fewest);
+        let damaged_too_few_times = damages.map(|(kind, counts)| (kind.clone(), counts.tried));
         met_too_few_times.chain(damaged_too_few_times).collect()
     }
 }
@@ -178,7 +179,7 @@ fn listed<Name: Display>(counts: impl IntoIterator<Item = (Name, u64)>) -> Strin
 
 #[cfg(test)]
 mod tests {
-    use super::{Findings, FEWEST_MET};
+    use super::{DamageCounts, Findings, FEWEST_MET};
 
     /// Everything that must be met, met often enough.
     fn sufficient_findings() -> Findings {
@@ -200,6 +201,22 @@ mod tests {
     #[test]
     fn nothing_met_is_too_few() {
         assert!(!Findings::new().passed());
+    }
+
+    #[test]
+    fn a_kind_of_damage_is_counted_up_to_its_fewest() {
+        let mut findings = sufficient_findings();
+        let too_few = |findings: &Findings| findings.met_too_few_times().len();
+        let before = too_few(&findings);
+        let counts = DamageCounts {
+            fewest: 2,
+            tried: 1,
+            still_well_formed: 0,
+        };
+        findings.count_damage("a kind of this test", &counts);
+        assert_eq!(too_few(&findings), before + 1);
+        findings.count_damage("a kind of this test", &counts);
+        assert_eq!(too_few(&findings), before);
     }
 
     #[test]

@@ -58,7 +58,10 @@ fn compare_damage(
     place: &str,
 ) {
     let ledger = pack(facts);
-    let mut counts = DamageCounts::default();
+    let mut counts = DamageCounts {
+        fewest: damage.fewest,
+        ..DamageCounts::default()
+    };
     for number in 0..damage.count {
         let damaged = (damage.damaged)(random, &ledger, number);
         if damaged == ledger {
@@ -78,5 +81,5 @@ fn compare_damage(
             });
         }
     }
-    findings.count_damage(damage.kind, &counts);
+    findings.count_damage(&damage.kind, &counts);
 }

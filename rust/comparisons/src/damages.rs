@@ -1,46 +1,73 @@
 //! The kinds of damage that are done to a ledger.
 
+use crate::generator::shares_above;
 use crate::random::Random;
 use calculator::facts::{CONTRACTS, MOST_ROWS};
 use calculator::layout::{ContractNumbers, LedgerNumbers, RowNumbers, LEDGER_BYTES};
+use calculator::packed::{pack, unpack};
+use calculator::rates::{amount, Bill};
 
 /// A kind of damage: its ledgers are numbered from 0.
 pub struct Damage {
-    pub kind: &'static str,
+    pub kind: String,
     pub count: usize,
-    pub damaged: Damaged,
+    /// How many damaged ledgers there must be in all comparisons.
+    pub fewest: u64,
+    pub damaged: Box<Damaged>,
 }
 
 /// The damaged ledger of a number; it is undamaged where the ledger has no place for the
 /// damage.
-type Damaged = fn(&mut Random, &[u8], usize) -> Vec<u8>;
+type Damaged = dyn Fn(&mut Random, &[u8], usize) -> Vec<u8>;
 
-/// The widths of the fields in document 01's order (section "The packed ledger, 18,760
-/// bytes").
+/// The widths of the fields in document 01's order (section "The packed ledger").
 const HEADER_WIDTHS: [usize; 3] = [1, 16, 47];
 const CONTRACT_WIDTHS: [usize; 8] = [1, 1, 2, 10, 10, 2, 10, 4];
-const ROW_WIDTHS: [usize; 8] = [1, 6, 10, 10, 27, 20, 20, 50];
+
+/// The fields of a row and their widths, in document 01's order with those of document 02,
+/// paper 1.
+const ROW_FIELDS: [(&str, usize); 11] = [
+    ("held", 1),
+    ("contract", 6),
+    ("first day", 10),
+    ("last day", 10),
+    ("kWh", 27),
+    ("ETII share", 27),
+    ("QHS share", 27),
+    ("R", 20),
+    ("S", 20),
+    ("amount", 50),
+    ("zeros", 2),
+];
 
 /// Where the contracts and the rows begin, in bits, and the bits of each.
 const CONTRACTS_PLACE: usize = 64;
 const CONTRACT_BITS: usize = 40;
 const ROWS_PLACE: usize = CONTRACTS_PLACE + CONTRACTS * CONTRACT_BITS;
-const ROW_BITS: usize = 144;
+const ROW_BITS: usize = 200;
 
-/// Lengths that aren't a ledger's.
-const WRONG_LENGTHS: [usize; 14] = [
-    0, 1, 7, 8, 9, 327, 328, 329, 346, 18_742, 18_759, 18_761, 18_778, 37_520,
+/// The highest share that a row's field has room for.
+const HIGHEST_SHARE: u32 = (1 << 27) - 1;
+
+/// Lengths that aren't a ledger's; 18,760 was one before rows had shares.
+const WRONG_LENGTHS: [usize; 15] = [
+    0, 1, 7, 8, 9, 327, 328, 329, 353, 18_760, 25_903, 25_927, 25_929, 25_953, 51_856,
 ];
 
 /// The rows that get every value in every field: the first ones, and as many drawn ones.
-const ROWS_PUSHED: usize = 30;
+const ROWS_PUSHED: usize = 40;
 
 /// The ledgers of a kind that is drawn at random.
 const DRAWN: usize = 60;
 
+/// How many ledgers of a kind there must be, and of one with few places in a ledger.
+const FEWEST_DAMAGED: u64 = 100;
+const FEWEST_DAMAGED_IN_FEW_PLACES: u64 = 20;
+
 /// All kinds of damage.
 pub fn damages() -> Vec<Damage> {
     let mut damages = numbered_damages();
+    damages.extend(row_field_damages());
     damages.extend(drawn_damages());
     damages
 }
@@ -49,51 +76,76 @@ pub fn damages() -> Vec<Damage> {
 fn numbered_damages() -> Vec<Damage> {
     vec![
         Damage {
-            kind: "header field at or over its limit",
-            count: pushes(&HEADER_WIDTHS).len(),
-            damaged: header_pushed,
+            kind: "header field at or over its limit".to_string(),
+            count: pushes(&HEADER_WIDTHS).concat().len(),
+            fewest: FEWEST_DAMAGED_IN_FEW_PLACES,
+            damaged: Box::new(header_pushed),
         },
         Damage {
-            kind: "contract field at or over its limit",
-            count: CONTRACTS * pushes(&CONTRACT_WIDTHS).len(),
-            damaged: contract_pushed,
+            kind: "contract field at or over its limit".to_string(),
+            count: CONTRACTS * pushes(&CONTRACT_WIDTHS).concat().len(),
+            fewest: FEWEST_DAMAGED,
+            damaged: Box::new(contract_pushed),
         },
         Damage {
-            kind: "row field at or over its limit",
-            count: ROWS_PUSHED * pushes(&ROW_WIDTHS).len(),
-            damaged: row_pushed,
-        },
-        Damage {
-            kind: "bit flipped, one in every byte",
+            kind: "bit flipped, one in every byte".to_string(),
             count: LEDGER_BYTES,
-            damaged: bit_flipped,
+            fewest: FEWEST_DAMAGED,
+            damaged: Box::new(bit_flipped),
         },
         Damage {
-            kind: "wrong length",
+            kind: "wrong length".to_string(),
             count: WRONG_LENGTHS.len(),
-            damaged: |_, ledger, number| resized(ledger, WRONG_LENGTHS[number]),
+            fewest: FEWEST_DAMAGED_IN_FEW_PLACES,
+            damaged: Box::new(|_, ledger, number| resized(ledger, WRONG_LENGTHS[number])),
         },
     ]
 }
 
+/// A kind for each field of a row.
+fn row_field_damages() -> impl Iterator<Item = Damage> {
+    let pushes = pushes(&ROW_FIELDS.map(|(_, width)| width));
+    ROW_FIELDS
+        .into_iter()
+        .zip(pushes)
+        .map(|((name, _), pushes)| Damage {
+            kind: format!("row field at or over its limit: {name}"),
+            count: ROWS_PUSHED * pushes.len(),
+            fewest: FEWEST_DAMAGED,
+            damaged: Box::new(move |random, ledger, number| {
+                row_pushed(random, ledger, number, &pushes)
+            }),
+        })
+}
+
 /// The kinds whose place is drawn at random.
-fn drawn_damages() -> impl Iterator<Item = Damage> {
-    let kinds: [(_, Damaged); 9] = [
-        ("rows swapped", rows_swapped),
-        ("row repeated", row_repeated),
-        ("rows overlapping", rows_overlapping),
-        ("gap between rows", gap_between_rows),
-        ("unused slot not zero", unused_slot_not_zero),
-        ("padding not zero", padding_not_zero),
-        ("amount off by one", amount_off_by_one),
-        ("contract of a row closed", contract_closed),
-        ("random bytes from a place on", random_bytes_from_a_place_on),
-    ];
-    kinds.into_iter().map(|(kind, damaged)| Damage {
-        kind,
+fn drawn_damages() -> Vec<Damage> {
+    vec![
+        drawn_damage("rows swapped", rows_swapped),
+        drawn_damage("row repeated", row_repeated),
+        drawn_damage("rows overlapping", rows_overlapping),
+        drawn_damage("gap between rows", gap_between_rows),
+        drawn_damage("unused slot not zero", unused_slot_not_zero),
+        drawn_damage("padding not zero", padding_not_zero),
+        drawn_damage("amount off by one", amount_off_by_one),
+        drawn_damage("amount as without shares", amount_as_without_shares),
+        drawn_damage("shares exchanged", shares_exchanged),
+        drawn_damage("shares of all kWh or more", shares_of_all_kwh_or_more),
+        drawn_damage("contract of a row closed", contract_closed),
+        drawn_damage("random bytes from a place on", random_bytes_from_a_place_on),
+    ]
+}
+
+fn drawn_damage(
+    kind: &str,
+    damaged: impl Fn(&mut Random, &[u8], usize) -> Vec<u8> + 'static,
+) -> Damage {
+    Damage {
+        kind: kind.to_string(),
         count: DRAWN,
-        damaged,
-    })
+        fewest: FEWEST_DAMAGED,
+        damaged: Box::new(damaged),
+    }
 }
 
 /// Values at, under and over the limits of a field of this width.
@@ -116,12 +168,13 @@ fn limits(width: usize) -> &'static [u64] {
 /// A field, by its first bit in a record and its width, with a value that it is set to.
 type Push = (usize, usize, u64);
 
-/// Every field of a record with each of its limits.
-fn pushes(widths: &[usize]) -> Vec<Push> {
+/// Every field of a record, with each of its limits.
+fn pushes(widths: &[usize]) -> Vec<Vec<Push>> {
     let mut place = 0;
     let mut pushes = Vec::new();
     for &width in widths {
-        pushes.extend(limits(width).iter().map(|&value| (place, width, value)));
+        let limits = limits(width).iter();
+        pushes.push(limits.map(|&value| (place, width, value)).collect());
         place += width;
     }
     pushes
@@ -142,18 +195,17 @@ fn pushed(ledger: &[u8], record_place: usize, (place, width, value): Push) -> Ve
 }
 
 fn header_pushed(_: &mut Random, ledger: &[u8], number: usize) -> Vec<u8> {
-    pushed(ledger, 0, pushes(&HEADER_WIDTHS)[number])
+    pushed(ledger, 0, pushes(&HEADER_WIDTHS).concat()[number])
 }
 
 fn contract_pushed(_: &mut Random, ledger: &[u8], number: usize) -> Vec<u8> {
-    let pushes = pushes(&CONTRACT_WIDTHS);
+    let pushes = pushes(&CONTRACT_WIDTHS).concat();
     let contract = number / pushes.len();
     let place = CONTRACTS_PLACE + contract * CONTRACT_BITS;
     pushed(ledger, place, pushes[number % pushes.len()])
 }
 
-fn row_pushed(random: &mut Random, ledger: &[u8], number: usize) -> Vec<u8> {
-    let pushes = pushes(&ROW_WIDTHS);
+fn row_pushed(random: &mut Random, ledger: &[u8], number: usize, pushes: &[Push]) -> Vec<u8> {
     let row = match number / pushes.len() {
         row if row < ROWS_PUSHED / 2 => row,
         _ => random.below(MOST_ROWS),
@@ -262,9 +314,11 @@ fn unused_slot_not_zero(random: &mut Random, ledger: &[u8], number: usize) -> Ve
     pushed(ledger, place, (random.below(bits), 1, 1))
 }
 
-fn padding_not_zero(random: &mut Random, ledger: &[u8], _: usize) -> Vec<u8> {
-    edited(ledger, |numbers, _| {
-        numbers.contracts[random.below(CONTRACTS)].zeros = random.within(1..=15);
+/// The last bits of a contract or of a row are set.
+fn padding_not_zero(random: &mut Random, ledger: &[u8], number: usize) -> Vec<u8> {
+    edited(ledger, |numbers, _| match number % 2 {
+        0 => numbers.contracts[random.below(CONTRACTS)].zeros = random.within(1..=15),
+        _ => numbers.rows[random.below(MOST_ROWS)].zeros = random.within(1..=3),
     })
 }
 
@@ -275,6 +329,61 @@ fn amount_off_by_one(random: &mut Random, ledger: &[u8], number: usize) -> Vec<u
             *amount = match number % 2 {
                 0 => *amount + 1,
                 _ => amount.saturating_sub(1),
+            };
+        }
+    })
+}
+
+/// A row with shares gets the amount that it would have without them.
+fn amount_as_without_shares(random: &mut Random, ledger: &[u8], _: usize) -> Vec<u8> {
+    let mut facts = unpack(ledger).expect("a ledger is well formed before it is damaged");
+    let contracts = facts.contracts;
+    let rows = facts.rows.iter_mut().filter_map(|row| {
+        let contract = contracts[row.contract as usize].expect("its contract is open");
+        let without_shares = Bill {
+            etii_share: 0,
+            qhs_share: 0,
+            ..row.bill
+        };
+        let amount = amount(&contract, &without_shares);
+        (amount != row.amount).then_some((row, amount))
+    });
+    if let Some((row, amount)) = one_if_any(random, rows) {
+        row.amount = amount;
+    }
+    pack(&facts)
+}
+
+/// A row's ETII share is put in place of its QHS share, and the other way round.
+fn shares_exchanged(random: &mut Random, ledger: &[u8], _: usize) -> Vec<u8> {
+    edited(ledger, |numbers, _| {
+        let rows = numbers.rows.iter_mut();
+        let rows = rows.filter(|row| row.etii_share != row.qhs_share);
+        if let Some(row) = one_if_any(random, rows) {
+            (row.etii_share, row.qhs_share) = (row.qhs_share, row.etii_share);
+        }
+    })
+}
+
+/// One of the items, if there is any.
+fn one_if_any<T>(random: &mut Random, items: impl Iterator<Item = T>) -> Option<T> {
+    let mut items: Vec<T> = items.collect();
+    (!items.is_empty()).then(|| items.swap_remove(random.below(items.len())))
+}
+
+/// A row's shares take all kWh, or exceed it. S is 0, so that every rate and with it the
+/// amount is 0 whatever the shares are.
+fn shares_of_all_kwh_or_more(random: &mut Random, ledger: &[u8], number: usize) -> Vec<u8> {
+    edited(ledger, |numbers, held| {
+        if held > 0 {
+            let row = &mut numbers.rows[random.below(held)];
+            (row.supply_price, row.amount) = (0, 0);
+            (row.etii_share, row.qhs_share) = match number % 4 {
+                0 => {
+                    let share = random.within(0..=row.kwh);
+                    (share, row.kwh - share)
+                }
+                _ => shares_above(random, row.kwh, HIGHEST_SHARE),
             };
         }
     })
@@ -305,13 +414,13 @@ mod tests {
     use crate::damaged_ledgers::random_facts;
     use crate::generator::FILLING;
     use calculator::codes::Territory;
-    use calculator::packed::{pack, unpack};
 
     #[test]
     fn the_widths_fill_the_ledger() {
         assert_eq!(HEADER_WIDTHS.iter().sum::<usize>(), CONTRACTS_PLACE);
         assert_eq!(CONTRACT_WIDTHS.iter().sum::<usize>(), CONTRACT_BITS);
-        assert_eq!(ROW_WIDTHS.iter().sum::<usize>(), ROW_BITS);
+        let row_widths = ROW_FIELDS.iter().map(|(_, width)| width);
+        assert_eq!(row_widths.sum::<usize>(), ROW_BITS);
         assert_eq!(ROWS_PLACE + MOST_ROWS * ROW_BITS, 8 * LEDGER_BYTES);
     }
 
@@ -323,6 +432,34 @@ mod tests {
         let mut expected = LedgerNumbers::read(&ledger);
         expected.rows[5].kwh = 100_000_001;
         assert_eq!(LedgerNumbers::read(&damaged), expected);
+    }
+
+    /// The last value of each field is all ones; it is set in the first row.
+    #[test]
+    fn a_kind_of_a_rows_field_sets_this_field() {
+        let mut random = Random::new(1, "fields", 0);
+        let rows = [
+            RowNumbers {
+                etii_share: HIGHEST_SHARE,
+                ..RowNumbers::default()
+            },
+            RowNumbers {
+                qhs_share: HIGHEST_SHARE,
+                ..RowNumbers::default()
+            },
+            RowNumbers {
+                zeros: 3,
+                ..RowNumbers::default()
+            },
+        ];
+        for (name, row) in ["ETII share", "QHS share", "zeros"].into_iter().zip(rows) {
+            let mut damages = row_field_damages();
+            let damage = damages.find(|damage| damage.kind.ends_with(name));
+            let damage = damage.expect("the field has a kind");
+            let last_value = damage.count / ROWS_PUSHED - 1;
+            let damaged = (damage.damaged)(&mut random, &[0; LEDGER_BYTES], last_value);
+            assert_eq!(LedgerNumbers::read(&damaged).rows[0], row, "{name}");
+        }
     }
 
     #[test]
