@@ -6,7 +6,7 @@ use Prim.Native.Nat.{ℕ, suc, _+_, _-_, _<_}
 use lib.Dec.{eqb}
 use lib.ListN.{length, take, drop, getD}
 use Rattle.limits.specs.Limits.{contractCount}
-use Rattle.basics.proofs.Tests.{not-yes, not-no}
+use Rattle.basics.proofs.Tests.{either, eq-yes, eq-no, not-yes, not-no}
 use Rattle.records.specs.Slots.{allZero}
 use Rattle.records.specs.OneSlot.{slotNumbers, isTaken, recordIn, slotAt}
 use Rattle.records.proofs.OneSlot.{part-lent}
@@ -43,12 +43,12 @@ module _ (b : List ℕ) (x : Row) (low : x .bill .contract < contractCount) (o :
     pub outside : not t ≡ true → false ≡ rowOk rules (contracts b) x
     outside e = sym (row-outside rules (contracts b) x low (opened is) k read (sym ranges ∙ not-yes t e))
 
-    module _ (inside : not t ≡ false) (n : ℕ) (rated : n ≡ amount k (x .bill)) where
-      pub part-of-due : x .amount ≡ n → true ≡ rowOk rules (contracts b) x
-      part-of-due e = sym (row-rated rules (contracts b) x low (opened is) k read (sym ranges ∙ not-no t inside) (e ∙ rated))
-
-      pub another-amount : (x .amount ≡ n → ⊥) → false ≡ rowOk rules (contracts b) x
-      another-amount e = sym (row-misrated rules (contracts b) x low (opened is) k read (sym ranges ∙ not-no t inside) (λ h. e (h ∙ sym rated)))
+    pub part-tested : not t ≡ false → (r : Bool) → r ≡ eqb (x .amount) (amount k (x .bill)) → r ≡ rowOk rules (contracts b) x
+    part-tested inside r e =
+        let kept : billOk k (x .bill) ≡ true = sym ranges ∙ not-no t inside in
+        e ∙ either (eqb (x .amount) (amount k (x .bill)))
+        (λ y. y ∙ sym (row-rated rules (contracts b) x low (opened is) k read kept (eq-yes _ _ y)))
+        (λ n. n ∙ sym (row-misrated rules (contracts b) x low (opened is) k read kept (eq-no _ _ n)))
 
 pub rateable : (x : Row) (k : Contract) (t : Bool) → t ≡ billOk k (x .bill) → not t ≡ false → Rateable (x .bill)
 rateable x k t e f = bill-ranges k (x .bill) (sym e ∙ not-no t f) .rateable

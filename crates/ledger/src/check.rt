@@ -69,10 +69,7 @@ fn row_ok(b: &[u8], row: Row) -> bool
     if !rules::ranges::bill_ok(contract, bill) {
         return false;
     }
-    if row.amount == rates::amounts::amount(contract, bill) {
-        return true;
-    }
-    false
+    rates::amounts::is_amount(contract, bill, row.amount)
 }
 
 // Contract and day as one number, in order of contract, then day.

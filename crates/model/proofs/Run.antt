@@ -1,7 +1,7 @@
 -- The paper's run, by computation. Assumes nothing.
 use mathlib.Core.Path.{refl}
 use Rattle.rates.specs.Rates.{leastTerm, part, partOf, classRate, qhsClass, classOf}
-use Rattle.rates.specs.Amounts.{hasShares, shares, shareAmount, amount, answeredClass, rate}
+use Rattle.rates.specs.Amounts.{hasShares, shares, shareAmount, amount, restClass, rate}
 use Rattle.model.specs.Codes.{opening, certify}
 use Rattle.model.specs.Contracts.{contractAt, isOpen, putContract}
 use Rattle.model.specs.Book.{reference}
@@ -13,5 +13,5 @@ use Rattle.model.specs.History.{answersTo}
 use Rattle.model.specs.Run.{zeroBook, runCalls, runAnswers, TheRun}
 
 pub the-run : TheRun
-unfolding answersTo zeroBook runCalls runAnswers fresh view sortsAfter due priced rerated accept outcome step answer refusal tests badBook badKind badDays badEffective badSpan badAmounts noPrice named sharing requestedBill reference contractAt isOpen putContract opening certify amount shareAmount shares hasShares rate answeredClass classOf qhsClass classRate partOf part leastTerm
+unfolding answersTo zeroBook runCalls runAnswers fresh view sortsAfter due priced rerated accept outcome step answer refusal tests badBook badKind badDays badEffective badSpan badAmounts noPrice named sharing requestedBill reference contractAt isOpen putContract opening certify amount shareAmount shares hasShares rate restClass classOf qhsClass classRate partOf part leastTerm
 the-run = refl

@@ -1,9 +1,6 @@
 -- A class's rate is at most its cap, and so is a bill's amount over its shares; within the paper's ranges it fits 50 bits. Assumes
 -- nothing.
-use mathlib.Core.Path.{_≡_}
-use mathlib.Core.Bool.{Bool, true, false, cond}
-use mathlib.Core.List.{[], _∷_}
-use Prim.Native.Nat.{ℕ, _+_, _*_, _^_, _<_, _≤_}
+use Prim.Native.Nat.{ℕ, _*_, _^_, _<_, _≤_}
 use native.Mathlib.Omega.{arith}
 use native.Mathlib.Nat.{mul-le-mul-left}
 use lib.IntN.{pos, _-ℤ_}
@@ -20,9 +17,10 @@ use Rattle.rates.specs.declared.Prices.the-variants.{Limited, Unlimited}
 use Rattle.rates.specs.declared.Contract.{Contract}
 use Rattle.rates.specs.declared.Bill.{Bill}
 use Rattle.rates.specs.Prices.{pricesOf, minimumOf}
-use Rattle.rates.specs.Rates.{part, partOf, classRate, classCap, classOf}
-use Rattle.rates.specs.Amounts.{share, hasShares, threeShares, shares, shareAmount, amount, shareCap, cap, answeredClass, rate, Rateable}
+use Rattle.rates.specs.Rates.{part, partOf, classRate, classCap}
+use Rattle.rates.specs.Amounts.{restClass, shares, shareAmount, amount, shareCap, cap, rate, Rateable}
 use Rattle.rates.proofs.Parts.{part-limited, part-unlimited}
+use Rattle.rates.proofs.Shares.{shares-whole}
 
 -- a part is at most the maximum discount, or of QHS at most S − QHS minimum
 limited-le : (support maximum minimum R S : ℕ) → part (Limited support maximum minimum) R S ≤ maximum
@@ -68,16 +66,7 @@ class-rate-low fuel class R S h = omega (arith, class-rate-capped fuel class R S
 -- the rate that a bill answers
 pub rate-low : (contract : Contract) (bill : Bill) → bill .supply ≤ highestPrice → rate contract bill ≤ highestRate
 unfolding rate
-rate-low contract bill h = class-rate-low (contract .fuel) (answeredClass contract bill) (bill .reference) (bill .supply) h
-
--- a bill's shares have all of its kWh
-pub shares-whole : (contract : Contract) (bill : Bill) → bill .etii + bill .qhs ≤ bill .kwh → total (λ s. s .kwh) (shares contract bill) ≡ bill .kwh
-unfolding shares threeShares
-shares-whole contract bill h = go (hasShares bill)
-  where
-    go : (b : Bool) → total (λ s. s .kwh) (cond b (threeShares contract bill) (share (bill .kwh) (classOf contract (bill .first)) ∷ [])) ≡ bill .kwh
-    go true = omega arith
-    go false = omega arith
+rate-low contract bill h = class-rate-low (contract .fuel) (restClass contract bill) (bill .reference) (bill .supply) h
 
 pub amount-capped : (contract : Contract) (bill : Bill) → amount contract bill ≤ cap contract bill
 unfolding amount cap shareAmount shareCap

@@ -20,42 +20,39 @@ pub record Share : Type 0 where
 abbrev pub share : (kwh : ℕ) → Class → Share
 share kwh class = record { kwh = kwh; class = class }
 
--- "either is not 0": of the kWh in its ETII share and in its QHS share
+-- "If either is not 0": of the kWh in the ETII share and in the QHS share
 unfoldable pub hasShares : Bill → Bool
 hasShares bill = not (eqb (bill .etii) 0) || not (eqb (bill .qhs) 0)
 
--- "each share is rated by its class, the certificate is set aside"; "the rest is baseline"
-unfoldable pub threeShares : Contract → Bill → List Share
-threeShares contract bill =
-    share (bill .kwh - (bill .etii + bill .qhs)) Baseline
+-- the class of the rest: then it is baseline and "the certificate is set aside"; else it is all of the bill, in the class by the certificate
+unfoldable pub restClass : Contract → Bill → Class
+restClass contract bill = cond (hasShares bill) Baseline (classOf contract (bill .first))
+
+-- "each share is rated by its class": the rest, the ETII share and the QHS share
+unfoldable pub shares : Contract → Bill → List Share
+shares contract bill =
+    share (bill .kwh - (bill .etii + bill .qhs)) (restClass contract bill)
     ∷ share (bill .etii) Etii
     ∷ share (bill .qhs) (qhsClass (contract .kind) (bill .first))
     ∷ []
 
--- a bill's shares: the three; without them all of the bill is of its class by the contract's certificate
-unfoldable pub shares : Contract → Bill → List Share
-shares contract bill = cond (hasShares bill) (threeShares contract bill) (share (bill .kwh) (classOf contract (bill .first)) ∷ [])
-
--- a bill's amount: the sum over its shares of kWh times the rate of the share's class
+-- a bill's amount: the sum over the three shares of kWh times the rate of the share's class
 unfoldable pub shareAmount : Contract → Bill → Share → ℕ
 shareAmount contract bill s = s .kwh * classRate (contract .fuel) (s .class) (bill .reference) (bill .supply)
 
 unfoldable pub amount : Contract → Bill → ℕ
 amount contract bill = total (shareAmount contract bill) (shares contract bill)
 
--- a bill's cap: the sum over its shares of kWh times the cap of the share's class
+-- a bill's cap: the sum over the three shares of kWh times the cap of the share's class
 unfoldable pub shareCap : Contract → Bill → Share → ℕ
 shareCap contract bill s = s .kwh * classCap (contract .fuel) (s .class) (bill .supply)
 
 unfoldable pub cap : Contract → Bill → ℕ
 cap contract bill = total (shareCap contract bill) (shares contract bill)
 
--- the rate answered: of a bill with shares the baseline one, else that of the bill's class
-unfoldable pub answeredClass : Contract → Bill → Class
-answeredClass contract bill = cond (hasShares bill) Baseline (classOf contract (bill .first))
-
+-- the rate answered is that of the rest
 unfoldable pub rate : Contract → Bill → ℕ
-rate contract bill = classRate (contract .fuel) (answeredClass contract bill) (bill .reference) (bill .supply)
+rate contract bill = classRate (contract .fuel) (restClass contract bill) (bill .reference) (bill .supply)
 
 -- a bill whose kWh, shares and S keep the ranges of a row, so that its amount fits
 pub record Rateable (bill : Bill) : Type 0 where

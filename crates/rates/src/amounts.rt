@@ -6,10 +6,11 @@ use crate::class_of;
 use crate::class_rate;
 use crate::qhs_class;
 ghost use mathlib.Core.Path.{_≡_};
+ghost use mathlib.Core.Bool.{true, false};
 ghost use Prim.Native.Nat.{_^_, _≤_, _<_};
+ghost use lib.Dec.{eqb};
 ghost use Rattle.limits.specs.Limits.{mostKwhStored, highestPrice};
-ghost use Rattle.basics.specs.Lists.{total};
-ghost use Rattle.rates.specs.Amounts.{hasShares, threeShares, share, shareAmount, answeredClass, rate, amount, Rateable};
+ghost use Rattle.rates.specs.Amounts.{share, hasShares, restClass, shareAmount, amount, rate, Rateable};
 
 // Whether a bill has an ETII or a QHS share.
 fn has_shares(bill: Bill) -> bool
@@ -21,9 +22,9 @@ fn has_shares(bill: Bill) -> bool
     true
 }
 
-// The class whose rate a bill answers: baseline where it has shares, else its class by its contract's certificate.
-fn answered_class(contract: Contract, bill: Bill) -> Class
-    ensures { λ r. ⌜ r ≡ answeredClass contract bill ⌝ }
+// The class of the rest: baseline where a bill has shares, else that of all of the bill, by its contract's certificate.
+fn rest_class(contract: Contract, bill: Bill) -> Class
+    ensures { λ r. ⌜ r ≡ restClass contract bill ⌝ }
 {
     if has_shares(bill) {
         return Class::Baseline;
@@ -31,14 +32,14 @@ fn answered_class(contract: Contract, bill: Bill) -> Class
     class_of(contract, bill.first)
 }
 
-// The rate that a bill answers, in ticks.
+// The rate that a bill answers, in ticks: that of the rest.
 pub fn rate(contract: Contract, bill: Bill) -> u64
     ensures { λ r. ⌜ r ≡ rate contract bill ⌝ }
 {
     let fuel = contract.fuel;
     class_rate(
         fuel,
-        answered_class(contract, bill),
+        rest_class(contract, bill),
         bill.reference,
         bill.supply,
     )
@@ -53,17 +54,25 @@ fn share_amount(contract: Contract, bill: Bill, kwh: u32, class: Class) -> u64
     kwh as u64 * class_rate(fuel, class, bill.reference, bill.supply)
 }
 
-// The amount of a bill that has shares: the sum over the three, of which the rest is baseline.
+// The amount of a bill without shares: all of it is of its class by its contract's certificate.
+fn class_amount(contract: Contract, bill: Bill) -> u64
+    requires { ⌜ Rateable bill × (hasShares bill ≡ false) ⌝ }
+    ensures { λ r. ⌜ r ≡ amount contract bill ⌝ }
+{
+    share_amount(contract, bill, bill.kwh, class_of(contract, bill.first))
+}
+
+// The amount of a bill with shares: the sum over the rest, which is baseline, the ETII share and the QHS share.
 fn shares_amount(contract: Contract, bill: Bill) -> u64
-    requires { ⌜ Rateable bill ⌝ }
-    ensures { λ r. ⌜ r ≡ total (shareAmount contract bill) (threeShares contract bill) ⌝ }
+    requires { ⌜ Rateable bill × (hasShares bill ≡ true) ⌝ }
+    ensures { λ r. ⌜ r ≡ amount contract bill ⌝ }
 {
     let kind = contract.kind;
-    let rest = bill.kwh - (bill.etii + bill.qhs);
-    let baseline = share_amount(contract, bill, rest, Class::Baseline);
+    let kwh = bill.kwh - (bill.etii + bill.qhs);
+    let rest = share_amount(contract, bill, kwh, Class::Baseline);
     let etii = share_amount(contract, bill, bill.etii, Class::Etii);
     let qhs = share_amount(contract, bill, bill.qhs, qhs_class(kind, bill.first));
-    baseline + etii + qhs
+    rest + etii + qhs
 }
 
 // A bill's amount, in ticks.
@@ -74,5 +83,17 @@ pub fn amount(contract: Contract, bill: Bill) -> u64
     if has_shares(bill) {
         return shares_amount(contract, bill);
     }
-    share_amount(contract, bill, bill.kwh, class_of(contract, bill.first))
+    class_amount(contract, bill)
+}
+
+// Whether a bill's amount is the one given. The check asks it of every row, so it has the two amounts for itself: LLVM inlines a function
+// with one caller whatever its size, and `amount` has several.
+pub fn is_amount(contract: Contract, bill: Bill, given: u64) -> bool
+    requires { ⌜ Rateable bill ⌝ }
+    ensures { λ r. ⌜ r ≡ eqb given (amount contract bill) ⌝ }
+{
+    if has_shares(bill) {
+        return given == shares_amount(contract, bill);
+    }
+    given == class_amount(contract, bill)
 }

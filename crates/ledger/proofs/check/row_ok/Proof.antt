@@ -1,5 +1,5 @@
 -- `row_ok` is the test `rowOk`, by what its tests find.
-use Rattle.ledger.proofs.RowTests.{closed, opened, outside, rateable, part-of-due, another-amount}
+use Rattle.ledger.proofs.RowTests.{closed, opened, outside, rateable, part-tested}
 use borrow.Author.Needs.{needs}
 use Rattle.ledger.proofs.check.row_ok.Statement.{statement}
 use Rattle.ledger.proofs.check.row_ok.Tie as tie
@@ -13,14 +13,11 @@ contract-at-requires c κs = search opened
 returns-2 : tie.Need-returns-2
 returns-2 c = search outside
 
-amount-requires : tie.Need-amount-requires
-amount-requires c κs = search rateable
+is-amount-requires : tie.Need-is-amount-requires
+is-amount-requires c κs = search rateable
 
 returns-3 : tie.Need-returns-3
-returns-3 c = search part-of-due
-
-returns-4 : tie.Need-returns-4
-returns-4 c = search another-amount
+returns-3 c = search part-tested
 
 pub row-ok-spec : {M : Type 1} → statement M
 row-ok-spec =
@@ -32,6 +29,5 @@ row-ok-spec =
     contract-at-requires
     (λ c κs. search needs)
     returns-2
-    amount-requires
-    returns-3
-    returns-4)
+    is-amount-requires
+    returns-3)

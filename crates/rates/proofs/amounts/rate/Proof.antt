@@ -1,4 +1,4 @@
--- `rate` is the rate of the class that a bill answers.
+-- `rate` is the rate of the rest.
 use Rattle.rates.specs.Amounts.{rate}
 use borrow.Author.Needs.{needs}
 use Rattle.rates.proofs.amounts.rate.Statement.{statement}
