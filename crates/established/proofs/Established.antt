@@ -8,6 +8,7 @@ use Rattle.rates.proofs.SharesRated.{shares-rated}
 use Rattle.model.proofs.BookEntries.{entries-found}
 use Rattle.model.proofs.BoundaryExamples.{at-the-boundaries}
 use Rattle.model.proofs.RangeExamples.{ranges-kept}
+use Rattle.model.proofs.Run.{landlord-example}
 use Rattle.model.proofs.Postings.{floor-leaves-rest}
 use Rattle.layout.proofs.Theorems.{packed-size, fresh-ledger, round-trips, claims-kept, demand-three, packed-histories-hold-their-facts, packed-answers-from-the-sheet, packed-same-as-postings, number-two-first, number-two-meets-no-call}
 use Rattle.layout.proofs.LayoutExample.{layout-example}
@@ -33,6 +34,7 @@ all-established = record {
   discounts-begin = discounts-begin;
   classes-applied = classes-applied;
   shares-rated = shares-rated;
+  landlord-example = landlord-example;
   entries-found = entries-found;
   field-laws = field-laws;
   field-examples = field-examples;

@@ -8,6 +8,7 @@ use Rattle.rates.specs.SharesRated.{SharesRated}
 use Rattle.model.specs.BookEntries.{EntriesFound}
 use Rattle.model.specs.BoundaryExamples.{AtTheBoundaries}
 use Rattle.model.specs.RangeExamples.{RangesKept}
+use Rattle.model.specs.LandlordExample.{LandlordExample}
 use Rattle.model.specs.Postings.{FloorLeavesRest}
 use Rattle.layout.specs.Theorems.{PackedSize, FreshLedger, RoundTrips, ClaimsKept, DemandThree, PackedHistoriesHoldTheirFacts, PackedAnswersFromTheSheet, PackedSameAsPostings, NumberTwoFirst, NumberTwoMeetsNoCall}
 use Rattle.layout.specs.LayoutExample.{LayoutExample}
@@ -33,6 +34,7 @@ pub record Established : Type 0 where
   pub discounts-begin : DiscountsBegin
   pub classes-applied : ClassesApplied
   pub shares-rated : SharesRated
+  pub landlord-example : LandlordExample
   pub entries-found : EntriesFound
   -- demand 2: the packed ledger, both ways
   pub field-laws : FieldLaws

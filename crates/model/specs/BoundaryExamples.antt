@@ -1,5 +1,5 @@
--- Document 01, "Turned down, in checking order", and paper 1's number 14: calls on either side of the limits, with the number that turns each down, 0 where none
--- does. Assumes nothing.
+-- Document 01, "Turned down, in checking order", and paper 1's number 14: calls on either side of the limits, with the number that turns
+-- each down, 0 where none does. Assumes nothing.
 use mathlib.Core.Path.{_≡_}
 use mathlib.Core.Bool.{Bool, true}
 use mathlib.Core.List.{List, [], _∷_, map}

@@ -1,4 +1,4 @@
--- Document 01 in mathematics. A reader starts with Codes and goes down the list.
+-- The papers in mathematics. A reader starts with Codes and goes down the list.
 pub mod Codes
 pub mod ContractNumbers
 pub mod Contracts
@@ -18,6 +18,7 @@ pub mod HoldsFacts
 pub mod SheetAnswers
 pub mod Postings
 pub mod Run
+pub mod LandlordExample
 pub mod BookEntries
 pub mod BoundaryExamples
 pub mod RangeExamples

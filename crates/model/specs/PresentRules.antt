@@ -1,5 +1,5 @@
--- Document 01, "Turned down, in checking order" and the ranges of a well-formed ledger, with paper 1 of document 02: the rules in force. The limits are named in crate
--- `limits`. Assumes nothing.
+-- Document 01, "Turned down, in checking order" and the ranges of a well-formed ledger, with paper 1 of document 02: the rules in force. The
+-- limits are named in crate `limits`. Assumes nothing.
 use mathlib.Core.Bool.{Bool, true, not, cond, _&&_, _||_}
 use mathlib.Core.List.{List, [], _∷_, _++_}
 use Prim.Native.Nat.{ℕ, _+_}

@@ -1,4 +1,5 @@
--- Document 01, "The packed ledger", with paper 1's shares: the numbers of a row in the paper's order, and the row of such numbers. Assumes nothing.
+-- Document 01, "The packed ledger", with paper 1's shares: the numbers of a row in the papers' order, and the row of such numbers. Assumes
+-- nothing.
 use mathlib.Core.List.{List, [], _∷_}
 use Prim.Native.Nat.{ℕ}
 use lib.ListN.{getD}

@@ -1,4 +1,5 @@
--- Document 01, "The program and one run", with both shares given as 0: the run's ten calls as a history of a Great Britain ledger, and its ten answers. Assumes nothing.
+-- Document 01, "The program and one run", with both shares given as 0: the run's ten calls as a history of a Great Britain ledger, and its
+-- ten answers. Assumes nothing.
 use mathlib.Core.Path.{_≡_}
 use mathlib.Core.List.{List, [], _∷_, map}
 use Prim.Native.Nat.{ℕ}

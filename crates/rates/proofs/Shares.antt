@@ -1,4 +1,5 @@
--- Sums over a bill's shares: of a bill without shares all of it is of its class, and of one with shares the rest is baseline. Assumes nothing.
+-- Sums over a bill's shares: of a bill without shares all of it is of its class, and of one with shares the rest is baseline. Assumes
+-- nothing.
 use mathlib.Core.Path.{_≡_, ap}
 use mathlib.Core.Bool.{true, false, not}
 use Prim.Native.Nat.{ℕ, _+_, _-_, _*_, _≤_}
