@@ -1,4 +1,4 @@
--- Document 01's packed ledger: bytes that hold facts, edited as the functions of this crate and `codec::header::write_header` edit them,
+-- The packed ledger in force: bytes that hold facts, edited as the functions of this crate and `codec::header::write_header` edit them,
 -- hold the changed facts. Assumes nothing.
 use mathlib.Core.Path.{_≡_, refl, sym, ap, ap₂, _∙_}
 use mathlib.Core.List.{List, [], _∷_}

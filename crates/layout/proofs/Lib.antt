@@ -1,4 +1,4 @@
--- Laws of any layout, of the check of a ledger so laid out, and of document 01's packed ledger.
+-- Laws of any layout, of the check of a ledger so laid out, and of the packed ledger in force.
 pub mod Order
 pub mod LayoutLaws
 pub mod Lawful

@@ -1,4 +1,4 @@
--- Document 01's layout keeps the laws of a layout. Assumes nothing.
+-- The layout in force keeps the laws of a layout. Assumes nothing.
 use mathlib.Core.Path.{_≡_, refl, _∙_}
 use mathlib.Core.Bool.{true}
 use Prim.Native.Nat.{ℕ, _≤_}

@@ -1,4 +1,4 @@
--- The packed ledger: any layout, document 01's, where its parts stand, and what is established of it.
+-- The packed ledger: any layout, the one in force, where its parts stand, and what is established of it.
 pub mod Layout
 pub mod Check
 pub mod PresentLayout

@@ -1,4 +1,4 @@
--- Document 01's rules keep the laws that the proofs use. Assumes nothing.
+-- The rules in force keep the laws that the proofs use. Assumes nothing.
 use mathlib.Core.Path.{_≡_, refl, ap, _∙_}
 use mathlib.Core.Bool.{true, false, not, _&&_}
 use mathlib.Core.List.{List, [], _∷_}

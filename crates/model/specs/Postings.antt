@@ -73,7 +73,7 @@ FloorLeavesRest = (z : ℤ) → (rest : ℕ) × (z ≡ pos ticksPerPenny *ℤ fl
 abbrev pub passing : (Bill → Bool) → List Bill → List Bill
 passing p bs = strikeOut (λ b. not (p b)) bs
 
--- each bill issued posts its amount, kWh times rate by the contracts; each bill reversed posts minus that
+-- each bill issued posts its part of due by the contracts; each bill reversed posts minus that
 abbrev pub issues : Rules → Contracts → List Bill → List ℤ
 issues R cs bs = map (λ b. pos (partOfDue R cs b)) bs
 

@@ -1,4 +1,4 @@
--- Document 01, "Well formed": held rows and open contracts on either side of the ranges. Assumes nothing.
+-- Document 01, "Well formed", and paper 1's shares: held rows and open contracts on either side of the ranges. Assumes nothing.
 use mathlib.Core.Path.{_≡_}
 use mathlib.Core.Bool.{Bool, true, false}
 use mathlib.Core.List.{List, [], _∷_, map}
@@ -25,8 +25,8 @@ abbrev pub heldBill : Kind → (first last kwh etii qhs reference supply : ℕ) 
 heldBill kind first last kwh etii qhs reference supply kept =
     record { kind = kind; first = first; last = last; kwh = kwh; etii = etii; qhs = qhs; reference = reference; supply = supply; kept = kept }
 
--- "486 ≤ first ≤ last ≤ 851", kWh at most 100,000,000, R and S at most 999,999, "R 0 only for flexible"; "A well-formed
--- row's shares don't exceed its kWh"
+-- "486 ≤ first ≤ last ≤ 851", kWh at most 100,000,000, R and S at most 999,999, "R 0 only for flexible"; of paper 1, "A
+-- well-formed row's shares don't exceed its kWh"
 unfoldable pub heldBills : List HeldBill
 heldBills =
     heldBill (Fixed 0 0) 486 851 100000000 0 0 999999 999999 true

@@ -1,14 +1,16 @@
--- Bills without shares, by the sum over the three; bills with shares, since then no share reads the certificate; and the examples, by
--- computation. Assumes nothing.
+-- Bills without shares and with shares, by the sums over shares; and the examples, by computation. Assumes nothing.
 use mathlib.Core.Path.{_≡_, refl, _∙_}
-use mathlib.Core.Bool.{false}
-use Prim.Native.Nat.{_*_}
+use mathlib.Core.Bool.{true, false}
+use Prim.Native.Nat.{_+_, _*_, _<_}
+use native.Mathlib.Omega.{arith}
+use lib.Dec.{eqb}
+use Rattle.basics.proofs.Tests.{either, eq-yes, no-eq}
 use Rattle.rates.specs.declared.Contract.{Contract}
 use Rattle.rates.specs.declared.Bill.{Bill}
 use Rattle.rates.specs.Rates.{leastTerm, part, partOf, classRate, classCap, qhsClass, classOf}
-use Rattle.rates.specs.Amounts.{hasShares, shares, shareAmount, amount, shareCap, cap, restClass, rate}
+use Rattle.rates.specs.Amounts.{hasShares, restClass, shares, shareAmount, amount, shareCap, cap, rate}
 use Rattle.rates.specs.SharesRated.{sharesExamples, SharesRated}
-use Rattle.rates.proofs.Shares.{shares-whole, sum-without}
+use Rattle.rates.proofs.Shares.{shares-whole, sum-without, sum-with}
 
 module _ (contract : Contract) (bill : Bill) (etii : bill .etii ≡ 0) (qhs : bill .qhs ≡ 0) where
   none : hasShares bill ≡ false
@@ -23,13 +25,18 @@ module _ (contract : Contract) (bill : Bill) (etii : bill .etii ≡ 0) (qhs : bi
   unfolding cap shareCap
   cap-without = sum-without contract bill (λ class. classCap (contract .fuel) class (bill .supply)) none
 
+some : (bill : Bill) → 0 < bill .etii + bill .qhs → hasShares bill ≡ true
+unfolding hasShares
+some bill h = either (eqb (bill .etii) 0) (λ y. rw (y, no-eq (bill .qhs) 0 (λ z. omega (arith, eq-yes (bill .etii) 0 y)))) (λ n. rw n)
+
 pub shares-rated : SharesRated
 unfolding sharesExamples amount shareAmount cap shareCap shares hasShares rate restClass classOf qhsClass classRate classCap partOf part leastTerm
 shares-rated = record {
   amount-without = amount-without;
   cap-without = cap-without;
-  set-aside = λ fuel kind one other bill h. rw h;
-  baseline = λ contract bill h. rw h;
+  amount-with = λ contract bill h. sum-with contract bill (λ class. classRate (contract .fuel) class (bill .reference) (bill .supply)) (some bill h);
+  cap-with = λ contract bill h. sum-with contract bill (λ class. classCap (contract .fuel) class (bill .supply)) (some bill h);
+  rate-with = λ contract bill h. rw (some bill h);
   whole = shares-whole;
   examples = refl;
 }

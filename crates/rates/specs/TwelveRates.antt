@@ -25,12 +25,12 @@ pub record Example : Type 0 where
 unfoldable pub example : Fuel → Kind → Certificate → (first R S ticks : ℕ) → Example
 example f k c d R S t = record { fuel = f; kind = k; certificate = c; first = d; R = R; S = S; ticks = t }
 
--- the contract of a row, a bill of 1 kWh without shares, and the bill's rate
+-- the contract of a row, a bill of 1 kWh without shares to the last day 851, and the bill's rate
 unfoldable pub contractIn : Example → Contract
 contractIn e = record { fuel = e .fuel; kind = e .kind; certificate = e .certificate }
 
 unfoldable pub billIn : Example → Bill
-billIn e = record { contract = 0; first = e .first; last = e .first; kwh = 1; etii = 0; qhs = 0; reference = e .R; supply = e .S }
+billIn e = record { contract = 0; first = e .first; last = 851; kwh = 1; etii = 0; qhs = 0; reference = e .R; supply = e .S }
 
 unfoldable pub rated : Example → ℕ
 rated e = rate (contractIn e) (billIn e)

@@ -55,7 +55,7 @@ fn share_amount(contract: Contract, bill: Bill, kwh: u32, class: Class) -> u64
 }
 
 // The amount of a bill without shares: all of it is of its class by its contract's certificate.
-fn class_amount(contract: Contract, bill: Bill) -> u64
+fn whole_amount(contract: Contract, bill: Bill) -> u64
     requires { ⌜ Rateable bill × (hasShares bill ≡ false) ⌝ }
     ensures { λ r. ⌜ r ≡ amount contract bill ⌝ }
 {
@@ -83,7 +83,7 @@ pub fn amount(contract: Contract, bill: Bill) -> u64
     if has_shares(bill) {
         return shares_amount(contract, bill);
     }
-    class_amount(contract, bill)
+    whole_amount(contract, bill)
 }
 
 // Whether a bill's amount is the one given. The check asks it of every row, so it has the two amounts for itself: LLVM inlines a function
@@ -95,5 +95,5 @@ pub fn is_amount(contract: Contract, bill: Bill, given: u64) -> bool
     if has_shares(bill) {
         return given == shares_amount(contract, bill);
     }
-    given == class_amount(contract, bill)
+    given == whole_amount(contract, bill)
 }

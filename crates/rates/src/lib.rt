@@ -50,7 +50,7 @@ pub struct Bill {
     pub supply: u32,
 }
 
-// A bill's class; of QHS, with the minimum that applies.
+// The class of a bill or of a share; of QHS, with the minimum that applies.
 pub enum Class {
     Baseline,
     Etii,
@@ -149,7 +149,7 @@ fn entered_early(kind: Kind) -> bool
     }
 }
 
-// The class of a qualifying heat supplier's bill with that first day.
+// The class of a qualifying heat supplier's bill or share with that first day.
 fn qhs_class(kind: Kind, first: u32) -> Class
     ensures { λ r. ⌜ r ≡ qhsClass kind first ⌝ }
 {

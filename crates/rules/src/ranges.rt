@@ -1,4 +1,4 @@
-// The ranges of document 01: the tests of what a call gives, and of what a well-formed ledger holds.
+// The ranges of document 01 and of paper 1: the tests of what a call gives, and of what a well-formed ledger holds.
 use crate::book::no_price;
 use crate::codes;
 use limits::FIRST_QHS_DAY;

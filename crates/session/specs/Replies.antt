@@ -34,7 +34,7 @@ pub record Response : Type 0 where
 abbrev pub saying : State → Reply → Response
 saying s said = record { reply = said; next = s }
 
--- a call of a history on the ledger: document 01's machine on the bytes
+-- a call of a history on the ledger: the machine on the bytes
 abbrev pub onLedger : State → CallWithBook → Response
 onLedger s c = record {
   reply = replyOf (machine .answer (s .ledger) c);

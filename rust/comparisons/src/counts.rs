@@ -180,6 +180,7 @@ fn listed<Name: Display>(counts: impl IntoIterator<Item = (Name, u64)>) -> Strin
 #[cfg(test)]
 mod tests {
     use super::{DamageCounts, Findings, FEWEST_MET};
+    use crate::rows_met::RowsMet;
 
     /// Everything that must be met, met often enough.
     fn sufficient_findings() -> Findings {
@@ -195,6 +196,7 @@ mod tests {
                     .for_each(|name| side.count_outcome(name, &Ok(vec![])));
             }
         }
+        findings.rows = RowsMet::each_met(FEWEST_MET);
         findings
     }
 
@@ -204,26 +206,27 @@ mod tests {
     }
 
     #[test]
+    fn everything_met_often_enough_passes() {
+        assert!(sufficient_findings().passed());
+    }
+
+    #[test]
     fn a_kind_of_damage_is_counted_up_to_its_fewest() {
         let mut findings = sufficient_findings();
-        let too_few = |findings: &Findings| findings.met_too_few_times().len();
-        let before = too_few(&findings);
         let counts = DamageCounts {
             fewest: 2,
             tried: 1,
             still_well_formed: 0,
         };
         findings.count_damage("a kind of this test", &counts);
-        assert_eq!(too_few(&findings), before + 1);
+        assert!(!findings.passed());
         findings.count_damage("a kind of this test", &counts);
-        assert_eq!(too_few(&findings), before);
+        assert!(findings.passed());
     }
 
     #[test]
     fn a_difference_fails() {
         let mut findings = sufficient_findings();
-        let rows = findings.rows.required().len();
-        assert_eq!(findings.met_too_few_times().len(), rows);
         findings.count_difference(|| "a difference of this test".to_string());
         assert!(!findings.passed());
     }

@@ -68,6 +68,15 @@ impl RowsMet {
         *self.counts.entry(sort).or_default() += 1;
     }
 
+    /// Every sort that must be met, met that often.
+    #[cfg(test)]
+    pub fn each_met(times: u64) -> RowsMet {
+        let counts = required_sorts().into_iter().map(|sort| (sort, times));
+        RowsMet {
+            counts: counts.collect(),
+        }
+    }
+
     /// Each sort that must be met, and how often it was.
     pub fn required(&self) -> Vec<(String, u64)> {
         let sorts = required_sorts().into_iter();

@@ -79,7 +79,7 @@ fn a_damaged_ledger_is_number_2() {
         (328, 1, "a row of a contract that isn't open"),
         (338, 7, "an ETII share that isn't in the amount"),
         (341, 4, "a QHS share that isn't in the amount"),
-        (352, 2, "an amount that isn't kWh times rate"),
+        (352, 2, "an amount that isn't the bill's"),
         (352, 1, "a bit after a row's fields"),
         (352, 0, "a row's last bit"),
         (353, 0, "bits of a row that isn't held"),

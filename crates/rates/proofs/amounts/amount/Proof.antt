@@ -7,8 +7,8 @@ use Rattle.rates.proofs.amounts.amount.Tie as tie
 shares-amount-requires : tie.Need-shares-amount-requires
 shares-amount-requires c κs = (c .before .before .pre, sym (c .before .has-shares .ensures) ∙ c .if1 .taken)
 
-class-amount-requires : tie.Need-class-amount-requires
-class-amount-requires c κs = (c .before .before .pre, sym (c .before .has-shares .ensures) ∙ c .if1 .left)
+whole-amount-requires : tie.Need-whole-amount-requires
+whole-amount-requires c κs = (c .before .before .pre, sym (c .before .has-shares .ensures) ∙ c .if1 .left)
 
 pub amount-spec : {M : Type 1} → statement M
 amount-spec =
@@ -17,5 +17,5 @@ amount-spec =
     (λ c κs. search needs)
     shares-amount-requires
     (λ c. search needs)
-    class-amount-requires
+    whole-amount-requires
     (λ c. search needs))

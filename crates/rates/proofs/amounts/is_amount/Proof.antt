@@ -8,8 +8,8 @@ use Rattle.rates.proofs.amounts.is_amount.Tie as tie
 shares-amount-requires : tie.Need-shares-amount-requires
 shares-amount-requires c κs = (c .before .before .pre, sym (c .before .has-shares .ensures) ∙ c .if1 .taken)
 
-class-amount-requires : tie.Need-class-amount-requires
-class-amount-requires c κs = (c .before .before .pre, sym (c .before .has-shares .ensures) ∙ c .if1 .left)
+whole-amount-requires : tie.Need-whole-amount-requires
+whole-amount-requires c κs = (c .before .before .pre, sym (c .before .has-shares .ensures) ∙ c .if1 .left)
 
 pub is-amount-spec : {M : Type 1} → statement M
 is-amount-spec =
@@ -18,5 +18,5 @@ is-amount-spec =
     (λ c κs. search needs)
     shares-amount-requires
     (λ c. ap (eqb (c .before .before .before .args .given)) (c .shares-amount .ensures))
-    class-amount-requires
-    (λ c. ap (eqb (c .before .before .before .args .given)) (c .class-amount .ensures)))
+    whole-amount-requires
+    (λ c. ap (eqb (c .before .before .before .args .given)) (c .whole-amount .ensures)))
