@@ -26,6 +26,10 @@ module _ {A : Type 0} where
   all-at P (x ∷ xs) d a zero h = a .0
   all-at P (x ∷ xs) d a (suc n) h = all-at P xs d (a .1) n (le-of-suc-le-suc h)
 
+  pub all-of : (P : A → Type 0) → ((x : A) → P x) → (xs : List A) → All P xs
+  all-of P h [] = tt
+  all-of P h (x ∷ xs) = (h x, all-of P h xs)
+
   pub all-of-map : {B : Type 0} (Q : B → Type 0) (f : A → B) → ((x : A) → Q (f x)) → (xs : List A) → All Q (map f xs)
   all-of-map Q f h [] = tt
   all-of-map Q f h (x ∷ xs) = (h x, all-of-map Q f h xs)
@@ -39,16 +43,14 @@ module _ {A : Type 0} where
   total-all f g (x ∷ xs) a = let h : f x ≡ g x = a .0 in let t : total f xs ≡ total g xs = total-all f g xs (a .1) in omega arith
 
   pub total-cong : (f g : A → ℕ) → ((x : A) → f x ≡ g x) → (xs : List A) → total f xs ≡ total g xs
-  total-cong f g e [] = refl
-  total-cong f g e (x ∷ xs) = let h : f x ≡ g x = e x in let t : total f xs ≡ total g xs = total-cong f g e xs in omega arith
+  total-cong f g e xs = total-all f g xs (all-of (λ x. f x ≡ g x) e xs)
 
   pub total-mono : (f g : A → ℕ) (xs : List A) → All (λ x. f x ≤ g x) xs → total f xs ≤ total g xs
   total-mono f g [] a = zero-le
   total-mono f g (x ∷ xs) a = let h : f x ≤ g x = a .0 in let t : total f xs ≤ total g xs = total-mono f g xs (a .1) in omega arith
 
   pub total-le : (f g : A → ℕ) → ((x : A) → f x ≤ g x) → (xs : List A) → total f xs ≤ total g xs
-  total-le f g h [] = zero-le
-  total-le f g h (x ∷ xs) = omega (arith, h x, total-le f g h xs)
+  total-le f g h xs = total-mono f g xs (all-of (λ x. f x ≤ g x) h xs)
 
   pub total-times : (w : A → ℕ) (n : ℕ) (xs : List A) → total (λ x. w x * n) xs ≡ total w xs * n
   total-times w n [] = omega arith

@@ -1,4 +1,4 @@
-// The calls for C: each takes the ledger, the book where the paper has one, the paper's numbers in the paper's order, and room for the
+// The calls for C: each takes the ledger, the book where document 01 has one, the call's numbers in the papers' order, and room for the
 // numbers of the answer; it returns the number of the refusal, 0 where the call is accepted. Nothing is required of the bytes.
 mod answers;
 

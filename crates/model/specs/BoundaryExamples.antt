@@ -194,7 +194,7 @@ inCheckingOrder =
     ∷ (Call.Bill (requestOf 0 485 499 100000001 1 1 0 0) with zeroBook on britain gives 7)
     ∷ (Call.Rebill (requestOf 0 501 501 100000001 1 1 4294967295 0) with zeroBook on britain gives 8)
     ∷ (Call.Rebill (requestOf 0 501 501 1 1 1 1 1) with zeroBook on britain gives 14)
-    ∷ (Call.Bill (requestOf 1 486 486 1 1 0 2 0) with zeroBook on sheetOfBills 1 gives 14)
+    ∷ (Call.Bill (requestOf 1 486 486 1 1 0 2 0) with zeroBook on sheetOfBills 1024 gives 14)
     ∷ (Call.Rebill (requestOf 0 501 501 1 1 1 0 0) with zeroBook on britain gives 9)
     ∷ (Call.Bill (requestOf 1 486 486 1 1 0 0 0) with zeroBook on sheetOfBills 1 gives 10)
     ∷ (Call.Bill (requestOf 1 487 487 1 1 0 0 0) with zeroBook on sheetOfBills 1024 gives 11)

@@ -39,8 +39,10 @@ heldBills =
     ∷ heldBill (Fixed 0 0) 486 851 0 0 0 0 0 false
     ∷ heldBill Flexible 486 851 0 0 0 0 0 true
     ∷ heldBill Flexible 486 851 100 100 0 0 0 true
+    ∷ heldBill Flexible 486 851 100 0 100 0 0 true
     ∷ heldBill Flexible 486 851 100 60 40 0 0 true
     ∷ heldBill Flexible 486 851 100 101 0 0 0 false
+    ∷ heldBill Flexible 486 851 100 0 101 0 0 false
     ∷ heldBill Flexible 486 851 100 60 41 0 0 false
     ∷ heldBill Flexible 486 851 100 0 134217727 0 0 false
     ∷ []

@@ -17,6 +17,10 @@ module _ (contract : Contract) (bill : Bill) (etii : bill .etii ≡ 0) (qhs : bi
   unfolding hasShares
   none = rw (etii, qhs)
 
+  rate-without : rate contract bill ≡ classRate (contract .fuel) (classOf contract (bill .first)) (bill .reference) (bill .supply)
+  unfolding rate restClass
+  rate-without = rw none
+
   amount-without : amount contract bill ≡ bill .kwh * rate contract bill
   unfolding amount shareAmount rate restClass
   amount-without = sum-without contract bill (λ class. classRate (contract .fuel) class (bill .reference) (bill .supply)) none ∙ rw none
@@ -32,6 +36,7 @@ some bill h = either (eqb (bill .etii) 0) (λ y. rw (y, no-eq (bill .qhs) 0 (λ 
 pub shares-rated : SharesRated
 unfolding sharesExamples amount shareAmount cap shareCap shares hasShares rate restClass classOf qhsClass classRate classCap partOf part leastTerm
 shares-rated = record {
+  rate-without = rate-without;
   amount-without = amount-without;
   cap-without = cap-without;
   amount-with = λ contract bill h. sum-with contract bill (λ class. classRate (contract .fuel) class (bill .reference) (bill .supply)) (some bill h);

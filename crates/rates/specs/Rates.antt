@@ -1,5 +1,5 @@
--- Document 01, "Prices per kWh": parts, the rates of the classes, a bill's class and a class's cap. R is the reference wholesale price and S the supply
--- price, in mils; rates and caps are in ticks (a tick is a ten-thousandth of a penny). Assumes nothing.
+-- Document 01, "Prices per kWh": parts, the rates of the classes, a bill's class and a class's cap. R is the reference wholesale price and
+-- S the supply price, in mils; rates and caps are in ticks (a tick is a ten-thousandth of a penny). Assumes nothing.
 use mathlib.Core.Bool.{Bool, false, not, cond, _&&_}
 use Prim.Native.Nat.{ℕ, _+_, _*_}
 use lib.Dec.{leb, ltb}

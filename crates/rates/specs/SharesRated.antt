@@ -33,7 +33,7 @@ sharesExample fuel kind certificate first kwh etii qhs R S rate amount cap = rec
 
 -- 500 kWh are the rest, 300 the ETII share, 200 the QHS share: with any certificate or none, before day 511 too; the old QHS minimum, and
 -- from day 792 on the new one except for a fixed contract entered before it; of gas; with one share alone, under a certificate, and where it is
--- all of the bill; where the baseline rate is 0; without shares, by the certificate; and the guidance's own example of a landlord, its Table 1
+-- all of the bill; where the baseline rate is 0; without shares, by the certificate; and the guidance's own example of energy passed on, its Table 1
 unfoldable pub sharesExamples : List SharesExample
 sharesExamples =
     sharesExample Electricity Flexible None 486 1000 300 200 35000 58330 19610 78919900 78919900
@@ -57,7 +57,9 @@ abbrev pub overThree : (Class → ℕ) → Contract → Bill → ℕ
 overThree w contract bill = (bill .kwh - (bill .etii + bill .qhs)) * w Baseline + bill .etii * w Etii + bill .qhs * w (qhsClass (contract .kind) (bill .first))
 
 pub record SharesRated : Type 0 where
-  -- demand 2, of a bill without shares: its amount is kWh times its rate, and its cap kWh times its class's cap
+  -- demand 2, of a bill without shares: its rate is that of its class, its amount kWh times its rate, and its cap kWh times its class's cap
+  pub rate-without : (contract : Contract) (bill : Bill) → bill .etii ≡ 0 → bill .qhs ≡ 0
+      → rate contract bill ≡ classRate (contract .fuel) (classOf contract (bill .first)) (bill .reference) (bill .supply)
   pub amount-without : (contract : Contract) (bill : Bill) → bill .etii ≡ 0 → bill .qhs ≡ 0 → amount contract bill ≡ bill .kwh * rate contract bill
   pub cap-without : (contract : Contract) (bill : Bill) → bill .etii ≡ 0 → bill .qhs ≡ 0
       → cap contract bill ≡ bill .kwh * classCap (contract .fuel) (classOf contract (bill .first)) (bill .supply)

@@ -68,11 +68,11 @@ fn shares_amount(contract: Contract, bill: Bill) -> u64
     ensures { λ r. ⌜ r ≡ amount contract bill ⌝ }
 {
     let kind = contract.kind;
-    let kwh = bill.kwh - (bill.etii + bill.qhs);
-    let rest = share_amount(contract, bill, kwh, Class::Baseline);
-    let etii = share_amount(contract, bill, bill.etii, Class::Etii);
-    let qhs = share_amount(contract, bill, bill.qhs, qhs_class(kind, bill.first));
-    rest + etii + qhs
+    let rest = bill.kwh - (bill.etii + bill.qhs);
+    let rest_amount = share_amount(contract, bill, rest, Class::Baseline);
+    let etii_amount = share_amount(contract, bill, bill.etii, Class::Etii);
+    let qhs_amount = share_amount(contract, bill, bill.qhs, qhs_class(kind, bill.first));
+    rest_amount + etii_amount + qhs_amount
 }
 
 // A bill's amount, in ticks.
@@ -86,8 +86,8 @@ pub fn amount(contract: Contract, bill: Bill) -> u64
     whole_amount(contract, bill)
 }
 
-// Whether a bill's amount is the one given. The check asks it of every row, so it has the two amounts for itself: LLVM inlines a function
-// with one caller whatever its size, and `amount` has several.
+// Whether a bill's amount is the one given. The check asks it of every row and is its one caller: LLVM inlines a function with one caller
+// whatever its size, and `amount` has several.
 pub fn is_amount(contract: Contract, bill: Bill, given: u64) -> bool
     requires { ⌜ Rateable bill ⌝ }
     ensures { λ r. ⌜ r ≡ eqb given (amount contract bill) ⌝ }

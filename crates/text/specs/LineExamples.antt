@@ -39,7 +39,8 @@ readable =
 -- 4,294,967,295, what is no number
 unfoldable pub unreadable : List String
 unreadable =
-    "" ∷ "bills" ∷ "Total" ∷ "report" ∷ "total 1" ∷ "cancel 10 11 12" ∷ "bill 10 11 12 13 14 15" ∷ "bill 10 11 12 13 14 15 16 17 18" ∷ "date  1" ∷ " date 1" ∷ "date 1 " ∷ "date 01" ∷ "date 10000000000"
+    "" ∷ "bills" ∷ "Total" ∷ "report" ∷ "total 1" ∷ "cancel 10 11 12" ∷ "bill 10 11 12 13 14 15" ∷ "bill 10 11 12 13 14 15 16"
+    ∷ "bill 10 11 12 13 14 15 16 17 18" ∷ "rebill 10 11 12 13 14 15 16" ∷ "date  1" ∷ " date 1" ∷ "date 1 " ∷ "date 01" ∷ "date 10000000000"
     ∷ "date 4294967296" ∷ "date -1" ∷ "date +1" ∷ "date 1x" ∷ []
 
 pub record LinesRead : Type 0 where

@@ -90,11 +90,11 @@ struct Parameters {
 /// The ticks in a mil.
 const TICKS_PER_MIL: i64 = 10;
 
-/// An ETII's share of consumption that gets the baseline part, 30%, in tenths; a tenth of a
+/// The part of an ETII's consumption that gets the baseline part, 30%, in tenths; a tenth of a
 /// mil is a tick (guidance, section 3.4, "Calculation of Discount for ETII Customers").
 const ETII_BASELINE_TENTHS: i64 = 3;
 
-/// An ETII's share of consumption that gets the ETII part, 70%, in tenths (same place).
+/// The part of an ETII's consumption that gets the ETII part, 70%, in tenths (same place).
 const ETII_ENHANCED_TENTHS: i64 = 7;
 
 /// The number of 1 February 2024, from which the new QHS minimum supply price applies
@@ -136,8 +136,8 @@ pub fn rate(contract: &Contract, bill: &Bill) -> i64 {
 }
 
 /// The amount of a bill in ten-thousandths of a penny: kWh times rate, over the three
-/// shares. The rate "applies to all Customer consumption" of the billing period (guidance,
-/// section 3.4, examples).
+/// shares. Without shares the one rate "applies to all Customer consumption" of the billing
+/// period (guidance, section 3.4, examples).
 pub fn amount(contract: &Contract, bill: &Bill) -> i64 {
     sum_over_shares(class_rate, contract, bill)
 }
