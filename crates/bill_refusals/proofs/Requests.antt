@@ -14,7 +14,7 @@ use Rattle.model.specs.Contracts.{contractAt}
 use Rattle.model.specs.Calls.{View, firstOf, billUnder, requestedBill}
 use Rattle.model.specs.Ledger.{view}
 use Rattle.model.specs.Rules.{unlessRefused}
-use Rattle.model.specs.PresentRules.{badAmounts, noPrice, requestTests}
+use Rattle.model.specs.PresentRules.{badMonths, badAmounts, noPrice, requestTests}
 use Rattle.model.specs.Places.{placeOf}
 use Rattle.model.proofs.Places.{count-at}
 use Rattle.layout.specs.Layout.{ledgerOf}
@@ -52,7 +52,7 @@ pub placed-at : (i number place : ℕ) → 0 ≡ number → i ≡ place → Plac
 unfolding placed
 placed-at i number place none e = rw (← none) (ap Placed.At e)
 
--- ---- the held rows, and the price that a bill needs, by what was found in the packed ledger
+-- ---- the held rows, by what was found in the packed ledger
 
 module _ (b : List ℕ) (rows : ℕ) (s : Searched b rows) where
   pub row-found : (p : Bill → Bool) (place : ℕ) → place ≡ placeOf p (facts b .rows) → ltb place rows ≡ ltb 0 (viewOf b .held p)
@@ -79,21 +79,26 @@ module _ (b : List ℕ) (rows : ℕ) (s : Searched b rows) where
   pub not-full : rows < rowCount → leb rowCount (viewOf b .held (λ x. true)) ≡ false
   not-full h = rw held-all (lt-leb rowCount rows h)
 
-pub price-found : (b : List ℕ) (c price : ℕ) (k : Contract) (r v : Bool) → k ≡ contractAt (contracts b) c → r ≡ noPrice (k .kind) price → r ≡ v
-    → noPrice (contractAt (viewOf b .contracts) c .kind) price ≡ v
-unfolding view ledgerOf
-price-found b c price k r v read e f = ap (λ (j : Contract). noPrice (j .kind) price) (sym read) ∙ sym e ∙ f
+-- ---- the contract that a request names, and what was found of it
 
-pub amounts-found : (b : List ℕ) (q : Request) (k : Contract) (r v : Bool) → k ≡ contractAt (contracts b) (q .contract) → r ≡ badAmounts k q → r ≡ v
-    → badAmounts (contractAt (viewOf b .contracts) (q .contract)) q ≡ v
-unfolding view ledgerOf
-amounts-found b q k r v read e f = ap (λ (j : Contract). badAmounts j q) (sym read) ∙ sym e ∙ f
+module _ (b : List ℕ) (c : ℕ) (k : Contract) (read : k ≡ contractAt (contracts b) c) where
+  pub contract-found : k ≡ contractAt (viewOf b .contracts) c
+  unfolding view ledgerOf
+  contract-found = read
 
--- the contract that a request names
-pub contract-found : (b : List ℕ) (k : Contract) (c : ℕ) → k ≡ contractAt (contracts b) c → k ≡ contractAt (viewOf b .contracts) c
-unfolding view ledgerOf
-contract-found b k c e = e
+  module _ (r v : Bool) where
+    test-found : (test : Contract → Bool) → r ≡ test k → r ≡ v → test (contractAt (viewOf b .contracts) c) ≡ v
+    test-found test e f = ap test (sym contract-found) ∙ sym e ∙ f
 
-pub ruleset request-refusals = (refusals, open-refused, open-passed, amounts-found)
+    pub months-found : (first last : ℕ) → r ≡ badMonths (k .kind) first last → r ≡ v → badMonths (contractAt (viewOf b .contracts) c .kind) first last ≡ v
+    months-found first last = test-found (λ j. badMonths (j .kind) first last)
+
+    pub amounts-found : (q : Request) → r ≡ badAmounts k q → r ≡ v → badAmounts (contractAt (viewOf b .contracts) c) q ≡ v
+    amounts-found q = test-found (λ j. badAmounts j q)
+
+    pub price-found : (price : ℕ) → r ≡ noPrice (k .kind) price → r ≡ v → noPrice (contractAt (viewOf b .contracts) c .kind) price ≡ v
+    price-found price = test-found (λ j. noPrice (j .kind) price)
+
+pub ruleset request-refusals = (refusals, open-refused, open-passed, months-found, amounts-found)
 
 pub ruleset row-refusals = (refusals, no-row, a-row, full, not-full, price-found)

@@ -11,6 +11,7 @@ use rules::book::bad_book;
 use rules::book::bill_under;
 use rules::book::no_price;
 use rules::ranges::bad_amounts;
+use rules::ranges::bad_months;
 use rules::ranges::bad_shares;
 use rules::ranges::bad_span;
 ghost use mathlib.Core.Path.{_≡_};
@@ -32,7 +33,7 @@ pub enum Placed {
     At(usize),
 }
 
-// Refusals 3 to 8 and 14, or the bill, with R from the book.
+// Refusals 3 to 14 in checking order, or the bill, with R from the book.
 pub fn requested_bill(b: &[u8], book: &[u32], request: Request) -> Requested
     requires { ⌜ Formed (now b) ⌝ }
     ensures { λ r. ⌜ r ≡ requestedOf (viewOf (now (b .entry))) request (now (book .entry)) ⌝ }
@@ -48,6 +49,10 @@ pub fn requested_bill(b: &[u8], book: &[u32], request: Request) -> Requested
         return Requested::Refused(7);
     }
     let contract = contract_at(b, request.contract as usize);
+    let kind = contract.kind;
+    if bad_months(kind, request.first, request.last) {
+        return Requested::Refused(15);
+    }
     if bad_amounts(contract, request) {
         return Requested::Refused(8);
     }

@@ -1,6 +1,7 @@
--- The scheme month of a day is the number of the later scheme months' first days that have come by that day, which a loop counts.
-use Prim.Native.Nat.{ℕ, suc, _+_, _≤_, _<_}
-use mathlib.Core.Path.{_≡_, ap, _∙_}
+-- The scheme month of a later day is no earlier one; and that of a day is the number of the later scheme months' first days that have come
+-- by that day, which a loop counts.
+use Prim.Native.Nat.{ℕ, zero, suc, _+_, _-_, _≤_, _<_}
+use mathlib.Core.Path.{_≡_, refl, ap, _∙_}
 use mathlib.Core.Bool.{Bool, true, false, cond}
 use mathlib.Core.List.{List}
 use native.Mathlib.Omega.{arith}
@@ -10,11 +11,38 @@ use lib.ListN.{length, drop, getD, drop-of-length-le}
 use lib.Seq.{drop-cons}
 use Rattle.limits.specs.Limits.{dayCount}
 use Rattle.basics.specs.Lists.{count}
-use Rattle.basics.proofs.Tests.{eq-yes}
+use Rattle.basics.proofs.Tests.{eq-yes, le-yes}
 use Rattle.calendar.specs.declared.CalendarDate.{CalendarDate}
 use Rattle.calendar.specs.Days.{dates, dateOf, noDate, schemeMonth, schemeMonthOf}
-use Rattle.calendar.proofs.Days.{day-count}
-use Rattle.basics.proofs.Tables.{each, each-at}
+use Rattle.calendar.proofs.Days.{day-count, from-day-to-day}
+use Rattle.basics.proofs.Tables.{each, each-at, adjacent}
+
+-- ---- the order of days
+
+-- whether a date's scheme month is no earlier than another's
+noEarlierMonth : CalendarDate → CalendarDate → Bool
+noEarlierMonth earlier later = leb (schemeMonthOf earlier) (schemeMonthOf later)
+
+-- the test over the whole table, which antt computes
+months-rise : adjacent noEarlierMonth dates ≡ true
+unfolding dates noEarlierMonth
+months-rise = refl
+
+-- so it is from each day to the next, and to any later one
+next-month : (day : ℕ) → suc day < dayCount → schemeMonth day ≤ schemeMonth (suc day)
+unfolding schemeMonth noEarlierMonth
+next-month day inside = le-yes _ _ (from-day-to-day noEarlierMonth months-rise day inside)
+
+later-month : (n day later : ℕ) → day + n ≡ later → later < dayCount → schemeMonth day ≤ schemeMonth later
+later-month zero day later e inside = let same : day ≡ later = omega arith in rw same (omega arith)
+later-month (suc n) day later e inside = omega (arith, next-month day (omega arith), later-month n (suc day) later (omega arith) inside)
+
+-- the days between two of one scheme month are of that month
+pub month-between : (first day last : ℕ) → first ≤ day → day ≤ last → last < dayCount → schemeMonth first ≡ schemeMonth last → schemeMonth day ≡ schemeMonth first
+month-between first day last h k inside e =
+    omega (arith, e, later-month (day - first) first day (omega arith) (omega arith), later-month (last - day) day last (omega arith) inside)
+
+-- ---- the count of first days
 
 -- how many of these days have come by a day
 unfoldable pub begun : ℕ → List ℕ → ℕ

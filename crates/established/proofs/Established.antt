@@ -9,6 +9,8 @@ use Rattle.model.proofs.BookEntries.{entries-found}
 use Rattle.model.proofs.BoundaryExamples.{at-the-boundaries}
 use Rattle.model.proofs.RangeExamples.{ranges-kept}
 use Rattle.model.proofs.Run.{landlord-example}
+use Rattle.model.proofs.PriceOfEveryDay.{price-of-every-day}
+use Rattle.model.proofs.QuarterExample.{quarter-example}
 use Rattle.model.proofs.Postings.{floor-leaves-rest}
 use Rattle.layout.proofs.Theorems.{packed-size, fresh-ledger, round-trips, claims-kept, demand-three, packed-histories-hold-their-facts, packed-answers-from-the-sheet, packed-same-as-postings, number-two-first, number-two-meets-no-call}
 use Rattle.layout.proofs.LayoutExample.{layout-example}
@@ -36,6 +38,7 @@ all-established = record {
   shares-rated = shares-rated;
   landlord-example = landlord-example;
   entries-found = entries-found;
+  price-of-every-day = price-of-every-day;
   field-laws = field-laws;
   field-examples = field-examples;
   packed-size = packed-size;
@@ -43,6 +46,7 @@ all-established = record {
   fresh-ledger = fresh-ledger;
   round-trips = round-trips;
   ranges-kept = ranges-kept;
+  quarter-example = quarter-example;
   claims-kept = claims-kept;
   packed-histories-hold-their-facts = packed-histories-hold-their-facts;
   demand-three = demand-three;

@@ -9,6 +9,8 @@ use Rattle.model.specs.BookEntries.{EntriesFound}
 use Rattle.model.specs.BoundaryExamples.{AtTheBoundaries}
 use Rattle.model.specs.RangeExamples.{RangesKept}
 use Rattle.model.specs.LandlordExample.{LandlordExample}
+use Rattle.model.specs.PriceOfEveryDay.{PriceOfEveryDay}
+use Rattle.model.specs.QuarterExample.{QuarterExample}
 use Rattle.model.specs.Postings.{FloorLeavesRest}
 use Rattle.layout.specs.Theorems.{PackedSize, FreshLedger, RoundTrips, ClaimsKept, DemandThree, PackedHistoriesHoldTheirFacts, PackedAnswersFromTheSheet, PackedSameAsPostings, NumberTwoFirst, NumberTwoMeetsNoCall}
 use Rattle.layout.specs.LayoutExample.{LayoutExample}
@@ -36,6 +38,7 @@ pub record Established : Type 0 where
   pub shares-rated : SharesRated
   pub landlord-example : LandlordExample
   pub entries-found : EntriesFound
+  pub price-of-every-day : PriceOfEveryDay
   -- demand 2: the packed ledger, both ways
   pub field-laws : FieldLaws
   pub field-examples : FieldExamples
@@ -44,6 +47,7 @@ pub record Established : Type 0 where
   pub fresh-ledger : FreshLedger
   pub round-trips : RoundTrips
   pub ranges-kept : RangesKept
+  pub quarter-example : QuarterExample
   pub claims-kept : ClaimsKept
   pub packed-histories-hold-their-facts : PackedHistoriesHoldTheirFacts
   -- demand 3: every history balances, and the move from postings

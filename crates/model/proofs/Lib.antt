@@ -21,7 +21,10 @@ pub mod BytesBalance
 pub mod HoldsFacts
 pub mod SheetAnswers
 pub mod Postings
+pub mod Computed
 pub mod Run
+pub mod PriceOfEveryDay
+pub mod QuarterExample
 pub mod BookEntries
 pub mod BoundaryExamples
 pub mod RangeExamples

@@ -63,7 +63,7 @@ module _ (R : Rules) (ok : RulesLaws R) where
   numbers-put cs c k h f d i = rw (no-eq d c (omega arith)) (f d i)
 
   -- other rows, and another contract under a number
-  with-rows : {l : Ledger} → WellFormed R l → {xs : List Row} → length xs ≤ rowCount → All (RowOk R (l .contracts)) xs → Apart xs → WellFormed R (withRows l xs)
+  pub with-rows : {l : Ledger} → WellFormed R l → {xs : List Row} → length xs ≤ rowCount → All (RowOk R (l .contracts)) xs → Apart xs → WellFormed R (withRows l xs)
   with-rows w few rows apart = record {
     territory = w .territory;
     claims = w .claims;

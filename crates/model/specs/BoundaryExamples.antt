@@ -1,8 +1,8 @@
--- Document 01, "Turned down, in checking order", and paper 1's number 14: calls on either side of the limits, with the number that turns
--- each down, 0 where none does. Assumes nothing.
+-- Document 01, "Turned down, in checking order", with number 14 of paper 1 and 15 of paper 2: calls on either side of the limits, with the
+-- number that turns each down, 0 where none does. Assumes nothing.
 use mathlib.Core.Path.{_≡_}
 use mathlib.Core.Bool.{Bool, true}
-use mathlib.Core.List.{List, [], _∷_, map}
+use mathlib.Core.List.{List, [], _∷_, _++_, map}
 use Prim.Native.Nat.{ℕ}
 use lib.Dec.{eqb}
 use lib.ListN.{replicate}
@@ -114,6 +114,35 @@ atNumber7 =
     ∷ (Call.Bill (requestOf 0 499 498 1 1 1 0 0) with zeroBook on britain gives 7)
     ∷ []
 
+-- a Northern Ireland ledger in which contract 1 is of that fuel and kind
+unfoldable pub sheetOfKind : (fuel kind : ℕ) → List Bill → Sheet
+sheetOfKind fuel kind bs = record { territory = 1; contracts = putContract noContracts 1 (opening fuel kind 0 0); bills = bs; claims = 0 }
+
+-- a span of that contract, billed, and billed again in place of a row with its first day; every price is published
+unfoldable pub spanGives : (fuel kind first last number : ℕ) → List Boundary
+spanGives fuel kind first last number =
+    (Call.Bill (requestOf 1 first last 1 1 0 0 0) with replicate 1740 1 on sheetOfKind fuel kind [] gives number)
+    ∷ (Call.Rebill (requestOf 1 first last 1 1 0 0 0) with replicate 1740 1 on sheetOfKind fuel kind (standing 1 first first ∷ []) gives number)
+    ∷ []
+
+-- all of April 2023, of February and of March 2024; then spans that touch two months or more: one day more and one day before, two days,
+-- 31 days, a quarter, the whole scheme
+unfoldable pub monthsGive : (fuel kind twoMonths : ℕ) → List Boundary
+monthsGive fuel kind twoMonths =
+    spanGives fuel kind 486 515 0
+    ++ spanGives fuel kind 792 820 0
+    ++ spanGives fuel kind 821 851 0
+    ++ spanGives fuel kind 486 516 twoMonths
+    ++ spanGives fuel kind 791 820 twoMonths
+    ++ spanGives fuel kind 820 821 twoMonths
+    ++ spanGives fuel kind 500 530 twoMonths
+    ++ spanGives fuel kind 486 576 twoMonths
+    ++ spanGives fuel kind 486 851 twoMonths
+
+-- 15: a variable or index span touches two months; the same spans of fixed and flexible contracts are taken
+unfoldable pub atNumber15 : List Boundary
+atNumber15 = monthsGive 0 1 15 ++ monthsGive 1 1 15 ++ monthsGive 0 3 15 ++ monthsGive 0 0 0 ++ monthsGive 1 2 0
+
 -- 8: kWh is above 100,000,000, S or WAP above 999,999, or a WAP not 0 where it must be
 unfoldable pub atNumber8 : List Boundary
 atNumber8 =
@@ -192,6 +221,10 @@ inCheckingOrder =
     ∷ (Call.Cert 2 3 852 with [] on britain gives 5)
     ∷ (Call.Cert 0 3 852 with [] on britain gives 6)
     ∷ (Call.Bill (requestOf 0 485 499 100000001 1 1 0 0) with zeroBook on britain gives 7)
+    ∷ (Call.Bill (requestOf 1 486 852 1 1 0 0 0) with april on britain gives 7)
+    ∷ (Call.Bill (requestOf 1 486 4294967295 1 1 0 0 0) with april on britain gives 7)
+    ∷ (Call.Bill (requestOf 1 486 516 100000001 1 1 4294967295 0) with zeroBook on sheetOfBills 1024 gives 15)
+    ∷ (Call.Rebill (requestOf 1 487 516 100000001 1 1 4294967295 0) with zeroBook on sheetOfBills 1 gives 15)
     ∷ (Call.Rebill (requestOf 0 501 501 100000001 1 1 4294967295 0) with zeroBook on britain gives 8)
     ∷ (Call.Rebill (requestOf 0 501 501 1 1 1 1 1) with zeroBook on britain gives 14)
     ∷ (Call.Bill (requestOf 1 486 486 1 1 0 2 0) with zeroBook on sheetOfBills 1024 gives 14)
@@ -207,4 +240,4 @@ asGiven e = eqb (refusal presentRules (view (e .sheet)) (e .call)) (e .number)
 abbrev pub AtTheBoundaries : Type 0
 AtTheBoundaries = All
     (λ table. every (map asGiven table) ≡ true)
-    (atNumber3 ∷ atNumber4 ∷ atNumber5 ∷ atNumber6 ∷ atNumber7 ∷ atNumber8 ∷ atNumber14 ∷ atNumber9 ∷ atNumber10 ∷ atNumber11 ∷ atNumber12 ∷ atNumber13 ∷ inCheckingOrder ∷ [])
+    (atNumber3 ∷ atNumber4 ∷ atNumber5 ∷ atNumber6 ∷ atNumber7 ∷ atNumber15 ∷ atNumber8 ∷ atNumber14 ∷ atNumber9 ∷ atNumber10 ∷ atNumber11 ∷ atNumber12 ∷ atNumber13 ∷ inCheckingOrder ∷ [])

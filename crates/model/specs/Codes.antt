@@ -46,6 +46,13 @@ isFlexible Variable = false
 isFlexible Flexible = true
 isFlexible Index = false
 
+-- a kind whose prices are published by the month: variable and index
+abbrev pub isMonthly : Kind → Bool
+isMonthly (Fixed fix entry) = false
+isMonthly Variable = true
+isMonthly Flexible = false
+isMonthly Index = true
+
 -- class: 0 none, 1 ETII, 2 QHS
 abbrev pub certificateOf : (class effectiveDay : ℕ) → Certificate
 certificateOf class effective = cond (eqb class 1) (Etii effective) (cond (eqb class 2) (Qhs effective) None)

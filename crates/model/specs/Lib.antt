@@ -19,6 +19,8 @@ pub mod SheetAnswers
 pub mod Postings
 pub mod Run
 pub mod LandlordExample
+pub mod PriceOfEveryDay
+pub mod QuarterExample
 pub mod BookEntries
 pub mod BoundaryExamples
 pub mod RangeExamples

@@ -1,5 +1,5 @@
--- Document 01, "Turned down, in checking order" and the ranges of a well-formed ledger, with paper 1 of document 02: the rules in force. The
--- limits are named in crate `limits`. Assumes nothing.
+-- Document 01, "Turned down, in checking order" and the ranges of a well-formed ledger, with papers 1 and 2 of document 02: the rules in
+-- force. The limits are named in crate `limits`. Assumes nothing.
 use mathlib.Core.Bool.{Bool, true, not, cond, _&&_, _||_}
 use mathlib.Core.List.{List, [], _∷_, _++_}
 use Prim.Native.Nat.{ℕ, _+_}
@@ -8,11 +8,12 @@ use lib.ListN.{length}
 use Rattle.limits.specs.Limits.{lastDay, firstSchemeDay, firstQhsDay, highestPrice, mostKwhGiven, mostKwhStored, bookLength, contractCount, rowCount, mostClaims}
 use Rattle.basics.specs.Tests.{every}
 use Rattle.basics.specs.Lists.{count}
+use Rattle.calendar.specs.Days.{schemeMonth}
 use Rattle.rates.specs.declared.Kind.{Kind}
 use Rattle.rates.specs.declared.Contract.{Contract}
 use Rattle.rates.specs.declared.Bill.{Bill}
 use Rattle.rates.specs.Amounts.{rate, amount, cap}
-use Rattle.model.specs.Codes.{isFlexible}
+use Rattle.model.specs.Codes.{isFlexible, isMonthly}
 use Rattle.model.specs.ContractNumbers.{numbersOfContract, fuelIn, kindIn, priceFixDayIn, entryDayIn, classIn, effectiveDayIn}
 use Rattle.model.specs.Contracts.{contractAt, contractOf, isOpen}
 use Rattle.model.specs.declared.Call.{Call}
@@ -48,6 +49,10 @@ badEffective class day = cond (eqb class 0) (not (eqb day 0)) (ltb lastDay day |
 unfoldable pub badSpan : (first last : ℕ) → Bool
 badSpan first last = not (leb firstSchemeDay first && (leb first last && leb last lastDay))
 
+-- 15: a variable or index span touches two months: it doesn't start and end in one
+unfoldable pub badMonths : Kind → (first last : ℕ) → Bool
+badMonths kind first last = isMonthly kind && not (eqb (schemeMonth first) (schemeMonth last))
+
 -- 8: kWh is above the most that may be given, S or WAP above the highest price, or a WAP not 0 where it must be (0 unless flexible)
 unfoldable pub badAmounts : Contract → Request → Bool
 badAmounts k q = ltb mostKwhGiven (q .kwh) || (ltb highestPrice (q .supply) || (ltb highestPrice (q .wap) || (not (isFlexible (k .kind)) && not (eqb (q .wap) 0))))
@@ -64,12 +69,13 @@ noPrice kind reference = not (isFlexible kind) && eqb reference 0
 unfoldable pub openTests : View → (contract : ℕ) → List Test
 openTests v c = (4 if badNumber c) ∷ (5 if not (isOpen (v .contracts) c)) ∷ []
 
--- 3 to 8, and 14 after it, of bill and rebill
+-- 3 to 14 in checking order, of the numbers that bill and rebill give
 unfoldable pub requestTests : View → Request → (book : List ℕ) → List Test
 requestTests v q book =
     (3 if badBook book)
     ∷ openTests v (q .contract)
     ++ ((7 if badSpan (q .first) (q .last))
+    ∷ (15 if badMonths (contractAt (v .contracts) (q .contract) .kind) (q .first) (q .last))
     ∷ (8 if badAmounts (contractAt (v .contracts) (q .contract)) q)
     ∷ (14 if badShares (q .kwh) (q .etii) (q .qhs))
     ∷ [])
@@ -123,7 +129,7 @@ contractRanges t v = every (contractTests t v)
 unfoldable pub contractOk : (territory : ℕ) → Contract → Bool
 contractOk t k = contractRanges t (numbersOfContract k)
 
--- a held row: its days, kWh, shares that don't exceed it, S and R, R 0 only for flexible
+-- a held row: its days, kWh, shares that don't exceed it, S and R, R 0 only for flexible; whatever months it touches
 abbrev pub billTests : Contract → Bill → List Bool
 billTests k b =
     not (badSpan (b .first) (b .last))

@@ -3,7 +3,7 @@ use rates::Certificate;
 use rates::Fuel;
 use rates::Kind;
 ghost use mathlib.Core.Path.{_≡_};
-ghost use Rattle.model.specs.Codes.{fuelOf, fuelCode, kindOf, kindCode, priceFixDay, entryDay, isFlexible, certificateOf, classCode, effectiveDay};
+ghost use Rattle.model.specs.Codes.{fuelOf, fuelCode, kindOf, kindCode, priceFixDay, entryDay, isFlexible, isMonthly, certificateOf, classCode, effectiveDay};
 
 pub fn fuel_of(code: u32) -> Fuel
     ensures { λ r. ⌜ r ≡ fuelOf code ⌝ }
@@ -91,6 +91,21 @@ pub fn is_flexible(kind: Kind) -> bool
         Kind::Variable => false,
         Kind::Flexible => true,
         Kind::Index => false,
+    }
+}
+
+// Whether prices of the kind are published by the month.
+pub fn is_monthly(kind: Kind) -> bool
+    ensures { λ r. ⌜ r ≡ isMonthly kind ⌝ }
+{
+    match kind {
+        Kind::Fixed {
+            price_fix_day: _,
+            entry_day: _,
+        } => false,
+        Kind::Variable => true,
+        Kind::Flexible => false,
+        Kind::Index => true,
     }
 }
 

@@ -1,4 +1,4 @@
-// The ranges of document 01 and of paper 1: the tests of what a call gives, and of what a well-formed ledger holds.
+// The ranges of document 01, of paper 1 and of paper 2: the tests of what a call gives, and of what a well-formed ledger holds.
 use crate::book::no_price;
 use crate::codes;
 use limits::FIRST_QHS_DAY;
@@ -10,8 +10,9 @@ use limits::MOST_KWH_STORED;
 use model::Request;
 use rates::Bill;
 use rates::Contract;
+use rates::Kind;
 ghost use mathlib.Core.Path.{_≡_};
-ghost use Rattle.model.specs.PresentRules.{badKind, badClass, badDays, badEffective, badSpan, badAmounts, badShares, contractRanges, billOk};
+ghost use Rattle.model.specs.PresentRules.{badKind, badClass, badDays, badEffective, badSpan, badMonths, badAmounts, badShares, contractRanges, billOk};
 ghost use mathlib.Core.List.{[], _∷_};
 
 // A fuel or kind code has no meaning, or kind 3 is given outside its place.
@@ -87,6 +88,16 @@ pub fn bad_span(first: u32, last: u32) -> bool
     }
     if LAST_DAY < last {
         return true;
+    }
+    false
+}
+
+// A variable or index span touches two months.
+pub fn bad_months(kind: Kind, first: u32, last: u32) -> bool
+    ensures { λ r. ⌜ r ≡ badMonths kind first last ⌝ }
+{
+    if codes::is_monthly(kind) {
+        return calendar::scheme_month(first) != calendar::scheme_month(last);
     }
     false
 }

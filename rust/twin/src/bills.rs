@@ -1,13 +1,15 @@
 //! What bill and rebill have in common: the numbers given, their refusals and the row made of
 //! them (document 01, sections "Contracts and the price book" and "Turned down, in checking
-//! order"; document 02, paper 1).
+//! order"; document 02, papers 1 and 2).
 
 use crate::calendar::scheme_month;
 use crate::check::{span_ok, Checked, HIGHEST_PRICE, MOST_KWH};
 use crate::contracts::{Contract, Fuel, Kind};
 use crate::packed::Row;
 use crate::rates::Bill;
-use crate::refusals::{BAD_BOOK, NO_PRICE, SHARES_EXCEED_KWH, WRONG_DAY, WRONG_QUANTITY};
+use crate::refusals::{
+    BAD_BOOK, NO_PRICE, SHARES_EXCEED_KWH, TWO_MONTHS, WRONG_DAY, WRONG_QUANTITY,
+};
 
 /// How many prices a book has.
 const BOOK_LENGTH: usize = 1_740;
@@ -39,7 +41,8 @@ pub struct BillNumbers {
 }
 
 impl BillNumbers {
-    /// The contract of a bill or rebill that none of the numbers 3 to 8 and 14 turns down.
+    /// The contract of a bill or rebill that none of the numbers 3 to 14 in checking order turns
+    /// down.
     pub fn contract<'a>(&self, checked: &'a Checked, book: &[u32]) -> Result<&'a Contract, u32> {
         if !book_ok(book) {
             return Err(BAD_BOOK);
@@ -47,6 +50,9 @@ impl BillNumbers {
         let contract = checked.contract(self.contract)?;
         if !span_ok(self.first, self.last) {
             return Err(WRONG_DAY);
+        }
+        if contract.kind.is_monthly() && scheme_month(self.first) != scheme_month(self.last) {
+            return Err(TWO_MONTHS);
         }
         let highest_wap = match contract.kind {
             Kind::Flexible => HIGHEST_PRICE,

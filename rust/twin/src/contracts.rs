@@ -36,6 +36,16 @@ pub enum Certificate {
     Qhs { effective_day: u32 },
 }
 
+impl Kind {
+    /// Whether the kind's prices are published by the month.
+    pub fn is_monthly(self) -> bool {
+        match self {
+            Kind::Variable | Kind::Index => true,
+            Kind::Fixed { .. } | Kind::Flexible => false,
+        }
+    }
+}
+
 /// An open contract.
 #[derive(Clone, Copy)]
 pub struct Contract {

@@ -1,5 +1,5 @@
-//! The numbers of document 01's section "Turned down, in checking order", with that of
-//! document 02, paper 1; they stand in checking order.
+//! The numbers of document 01's section "Turned down, in checking order", with those of
+//! document 02's papers 1 and 2; they stand in checking order.
 
 /// The ledger isn't well formed.
 pub const NOT_WELL_FORMED: u32 = 2;
@@ -13,6 +13,8 @@ pub const WRONGLY_OPEN: u32 = 5;
 pub const WRONG_CODE: u32 = 6;
 /// A day is wrong.
 pub const WRONG_DAY: u32 = 7;
+/// A variable or index span touches two months.
+pub const TWO_MONTHS: u32 = 15;
 /// kWh, S or WAP is out of its range.
 pub const WRONG_QUANTITY: u32 = 8;
 /// The two shares exceed kWh.

@@ -6,30 +6,15 @@ use borrow.Author.Needs.{needs}
 use Rattle.bill_refusals.proofs.place_again.Statement.{statement}
 use Rattle.bill_refusals.proofs.place_again.Tie as tie
 
-returns : tie.Need-returns
-unfolding rowAgainTests
-returns c = placed-refused _ _ _ (search row-refusals depth 20) (λ z. omega arith)
-
-returns-2 : tie.Need-returns-2
-unfolding rowAgainTests
-returns-2 c = placed-refused _ _ _ (search row-refusals depth 20) (λ z. omega arith)
-
-returns-3 : tie.Need-returns-3
-unfolding rowAgainTests
-returns-3 c = placed-refused _ _ _ (search row-refusals depth 20) (λ z. omega arith)
-
-returns-4 : tie.Need-returns-4
-unfolding rowAgainTests
-returns-4 c = placed-at _ _ _ (search row-refusals depth 20) (search needs)
-
 pub place-again-spec : {M : Type 1} → statement M
+unfolding rowAgainTests
 place-again-spec =
     tie.close
     (tie.spec
     (λ c κs. search needs)
-    returns
+    (λ c. placed-refused _ _ _ (search row-refusals depth 20) (λ z. omega arith))
     (λ c κs. search needs)
-    returns-2
+    (λ c. placed-refused _ _ _ (search row-refusals depth 20) (λ z. omega arith))
     (λ c κs. search needs)
-    returns-3
-    returns-4)
+    (λ c. placed-refused _ _ _ (search row-refusals depth 20) (λ z. omega arith))
+    (λ c. placed-at _ _ _ (search row-refusals depth 20) (search needs)))

@@ -1,0 +1,56 @@
+-- R of an accepted bill or rebill is the price of each day of its span. Assumes nothing.
+use mathlib.Core.Path.{_≡_, refl, sym, ap}
+use mathlib.Core.Bool.{false, not}
+use mathlib.Core.List.{List}
+use mathlib.Core.Logic.{_↔_}
+use Prim.Native.Nat.{ℕ, _≤_}
+use native.Mathlib.Omega.{arith}
+use lib.Dec.{eqb}
+use lib.ListN.{getD}
+use Rattle.basics.proofs.Tests.{not-no, eq-yes, yes-eq}
+use Rattle.calendar.specs.Days.{schemeMonth}
+use Rattle.calendar.proofs.SchemeMonths.{month-between}
+use Rattle.rates.specs.declared.Fuel.{Fuel}
+use Rattle.rates.specs.declared.Kind.{Kind}
+use Rattle.rates.specs.declared.Kind.the-variants.{Fixed, Variable, Flexible, Index}
+use Rattle.model.specs.Contracts.{contractAt}
+use Rattle.model.specs.Book.{bookIndex, referenceOf, reference}
+use Rattle.model.specs.declared.Call.{Call}
+use Rattle.model.specs.declared.Request.{Request}
+use Rattle.model.specs.Calls.{View, requestedBill, _with_}
+use Rattle.model.specs.PresentRules.{badSpan, badMonths, tests}
+use Rattle.model.specs.PriceOfEveryDay.{PriceOn, PriceOfEveryDay}
+use Rattle.model.proofs.AcceptedBill.{span-days}
+use Rattle.model.proofs.PresentRules.{passed}
+
+module _ (first last : ℕ) (spans : badSpan first last ≡ false) where
+  -- one month at both ends is the month of each day
+  one-month : not (eqb (schemeMonth first) (schemeMonth last)) ≡ false → (day : ℕ) → first ≤ day → day ≤ last → schemeMonth day ≡ schemeMonth first
+  one-month e day h i = month-between first day last h i (omega (arith, span-days first last spans)) (eq-yes _ _ (not-no _ e))
+
+  -- and if the last day's is the first day's, no two months are touched
+  no-two-months : schemeMonth last ≡ schemeMonth first → not (eqb (schemeMonth first) (schemeMonth last)) ≡ false
+  no-two-months e = rw (yes-eq _ _ (sym e))
+
+  one-entry : (fuel : Fuel) (kind : Kind) → (badMonths kind first last ≡ false) ↔ ((day : ℕ) → first ≤ day → day ≤ last → bookIndex fuel kind day ≡ bookIndex fuel kind first)
+  unfolding badMonths
+  one-entry fuel (Fixed fix entry) = (λ e day h i. refl, λ f. refl)
+  one-entry fuel Variable = (λ e day h i. omega (arith, one-month e day h i), λ f. no-two-months (omega (arith, f last (span-days first last spans .0) (omega arith))))
+  one-entry fuel Flexible = (λ e day h i. refl, λ f. refl)
+  one-entry fuel Index = (λ e day h i. omega (arith, one-month e day h i), λ f. no-two-months (omega (arith, f last (span-days first last spans .0) (omega arith))))
+
+-- R is read from the first day's entry, which is that of each day
+priced-by-day : (v : View) (q : Request) (book : List ℕ) → badSpan (q .first) (q .last) ≡ false → badMonths (contractAt (v .contracts) (q .contract) .kind) (q .first) (q .last) ≡ false
+    → (day : ℕ) → q .first ≤ day → day ≤ q .last → PriceOn v q book day
+unfolding requestedBill reference
+priced-by-day v q book spans months day h i =
+    let k = contractAt (v .contracts) (q .contract) in
+    ap (λ (n : ℕ). referenceOf (k .kind) (q .wap) (getD book n 0)) (sym (one-entry (q .first) (q .last) spans (k .fuel) (k .kind) .0 months day h i))
+
+pub price-of-every-day : PriceOfEveryDay
+unfolding tests
+price-of-every-day = record {
+  one-entry = λ fuel kind first last spans. one-entry first last spans fuel kind;
+  bills = λ v q book e. let p = passed v (Call.Bill q with book) e in priced-by-day v q book (p 7) (p 15);
+  rebills = λ v q book e. let p = passed v (Call.Rebill q with book) e in priced-by-day v q book (p 7) (p 15);
+}

@@ -1,0 +1,32 @@
+-- Paper 2 of document 02: "Published variable and index prices are monthly, and desks have sent quarters under the first month's price. From
+-- now such a bill or rebill must start and end in one scheme month." So each bill's R is the price of each of its days. Assumes nothing.
+use mathlib.Core.Path.{_≡_}
+use mathlib.Core.Bool.{false}
+use mathlib.Core.List.{List}
+use mathlib.Core.Logic.{_↔_}
+use Prim.Native.Nat.{ℕ, _≤_}
+use Rattle.rates.specs.declared.Fuel.{Fuel}
+use Rattle.rates.specs.declared.Kind.{Kind}
+use Rattle.model.specs.Contracts.{contractAt}
+use Rattle.model.specs.Book.{bookIndex, reference}
+use Rattle.model.specs.declared.Call.{Call}
+use Rattle.model.specs.declared.Request.{Request}
+use Rattle.model.specs.Calls.{View, requestedBill, _with_}
+use Rattle.model.specs.Rules.{refusal}
+use Rattle.model.specs.PresentRules.{badSpan, badMonths, presentRules}
+
+-- R that the request has is the one that a bill from that day on would have
+abbrev pub PriceOn : View → Request → (book : List ℕ) → (day : ℕ) → Type 0
+PriceOn v q book day = requestedBill (v .contracts) q book .reference ≡ reference (contractAt (v .contracts) (q .contract)) day (q .wap) book
+
+-- if the call of a request isn't turned down, R is the price of each day of the span
+abbrev pub PricedByDay : (Request → Call) → Type 0
+PricedByDay call =
+    (v : View) (q : Request) (book : List ℕ) → refusal presentRules v (call q with book) ≡ 0 → (day : ℕ) → q .first ≤ day → day ≤ q .last → PriceOn v q book day
+
+pub record PriceOfEveryDay : Type 0 where
+  -- a span of the scheme passes number 15 just where each of its days has its price in the first day's entry of the book
+  pub one-entry : (fuel : Fuel) (kind : Kind) (first last : ℕ) → badSpan first last ≡ false
+      → (badMonths kind first last ≡ false) ↔ ((day : ℕ) → first ≤ day → day ≤ last → bookIndex fuel kind day ≡ bookIndex fuel kind first)
+  pub bills : PricedByDay Call.Bill
+  pub rebills : PricedByDay Call.Rebill
