@@ -2,8 +2,8 @@
  * The calls of the discount ledger of the Energy Bills Discount Scheme, for C and C++.
  *
  * The calls, their numbers, answers and refusals are those of document 01, "The discount ledger of
- * the Energy Bills Discount Scheme", with the shares of paper 1 of document 02, "Later changes to
- * the base". The library is target/staticlib/libebds_c.a, which the command `rt staticlib ebds_c`
+ * the Energy Bills Discount Scheme", with papers 1 and 2 of document 02, "Later changes to the
+ * base". The library is target/staticlib/libebds_c.a, which the command `rt staticlib ebds_c`
  * proves and builds. It keeps nothing between calls and allocates nothing.
  *
  * What every call gives back
@@ -15,6 +15,8 @@
  * The ledger
  *   A packed ledger is EBDS_LEDGER_LENGTH bytes. A call takes bytes of any length and any contents
  *   and gives 2 where they aren't a well-formed ledger. It may be copied, stored and sent as bytes.
+ *   Well formed are also rows of variable and index contracts across two months or more, from before
+ *   number 15 came: they stand with the price that they hold, and take certificates and cancellation.
  *
  * The price book
  *   EBDS_BOOK_LENGTH prices in mils (thousandths of a penny per kWh), 0 meaning not published. Fixed
@@ -34,6 +36,7 @@
  *    5  the contract is open already (ebds_open), or isn't open (every other call that names one)
  *    6  a territory, fuel, kind or class code has no meaning, or kind 3 is given outside its place
  *    7  a day is wrong
+ *   15  a variable or index span touches two scheme months (ebds_bill, ebds_rebill)
  *    8  kWh is above 100,000,000, S or WAP above 999,999, or a WAP isn't 0 where it must be
  *   14  the two shares exceed kWh (ebds_bill, ebds_rebill)
  *    9  no row of that contract has that first day (ebds_rebill, ebds_cancel)
@@ -88,16 +91,17 @@ uint32_t ebds_open(uint8_t *ledger, size_t ledger_length, uint32_t contract, uin
                    uint32_t kind, uint32_t price_fix_day, uint32_t entry_day, int64_t *answer);
 
 /*
- * bill: adds a row, from the first to the last day, with 486 <= first <= last <= 851. The WAP is R of
- * a flexible contract, and 0 for any other, whose R is the book's. Answers R, rate, amount.
+ * bill: adds a row, from the first to the last day, with 486 <= first <= last <= 851, both in one
+ * scheme month where the contract is variable or index. The WAP is R of a flexible contract, and 0
+ * for any other, whose R is the book's. Answers R, rate, amount.
  */
 uint32_t ebds_bill(uint8_t *ledger, size_t ledger_length, const uint32_t *book, size_t book_length,
                    uint32_t contract, uint32_t first, uint32_t last, uint32_t kwh, uint32_t supply,
                    uint32_t wap, uint32_t etii_share, uint32_t qhs_share, int64_t *answer);
 
 /*
- * rebill: puts a row in place of the one with that contract and first day, with the shares given; R
- * is looked up anew. Answers R, rate, the new amount minus the old.
+ * rebill: puts a row in place of the one with that contract and first day, with the numbers given,
+ * which are those of bill; R is looked up anew. Answers R, rate, the new amount minus the old.
  */
 uint32_t ebds_rebill(uint8_t *ledger, size_t ledger_length, const uint32_t *book,
                      size_t book_length, uint32_t contract, uint32_t first, uint32_t last,

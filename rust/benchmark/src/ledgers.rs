@@ -10,7 +10,7 @@ pub const NORTHERN_IRELAND: u32 = 1;
 /// The contract with a quarter of the rows: fixed, electricity, without a certificate.
 pub const LARGE_CONTRACT: u32 = 0;
 
-/// A contract whose rows are in the middle.
+/// A variable contract, whose bills must lie within one month, with its rows in the middle.
 pub const MIDDLE_CONTRACT: u32 = 29;
 
 /// The one contract that isn't open.

@@ -1,5 +1,5 @@
 //! What turns a call down (document 01, section "Turned down, in checking order"; document 02,
-//! paper 1).
+//! papers 1 and 2).
 
 use std::error::Error;
 use std::fmt::{self, Display, Formatter};
@@ -14,6 +14,7 @@ pub enum Refusal {
     WronglyOpen = 5,
     WrongCode = 6,
     WrongDay = 7,
+    TwoMonths = 15,
     WrongQuantity = 8,
     SharesExceedKwh = 14,
     NoSuchRow = 9,
@@ -25,13 +26,14 @@ pub enum Refusal {
 
 impl Refusal {
     /// All of them, in checking order.
-    const ALL: [Refusal; 13] = [
+    const ALL: [Refusal; 14] = [
         Refusal::NotWellFormed,
         Refusal::BadBook,
         Refusal::NoSuchContract,
         Refusal::WronglyOpen,
         Refusal::WrongCode,
         Refusal::WrongDay,
+        Refusal::TwoMonths,
         Refusal::WrongQuantity,
         Refusal::SharesExceedKwh,
         Refusal::NoSuchRow,
@@ -64,6 +66,7 @@ impl Refusal {
                 "a territory, fuel, kind or class code has no meaning, or kind 3 is given outside its place"
             }
             Refusal::WrongDay => "a day is wrong",
+            Refusal::TwoMonths => "a variable or index span touches two months",
             Refusal::WrongQuantity => {
                 "kWh is above 100,000,000, S or WAP above 999,999, or a WAP not 0 where it must be"
             }

@@ -1,6 +1,6 @@
-//! Document 01, "Turned down, in checking order", with number 14 of document 02, paper 1: each number that the program can meet, and
-//! for each pair of neighbouring tests a line that fails both, which the earlier test turns down. The program's own ledger and book
-//! never meet numbers 2 and 3; the tests of the package `ebds` do.
+//! Document 01, "Turned down, in checking order", with numbers 14 and 15 of document 02, papers 1 and 2: each number that the program
+//! can meet, and for each pair of neighbouring tests a line that fails both, which the earlier test turns down. The program's own ledger
+//! and book never meet numbers 2 and 3; the tests of the package `ebds` do.
 
 use program::expect;
 
@@ -152,6 +152,78 @@ fn number_7_days() {
     );
 }
 
+/// The first days of the scheme months, and the day after the last.
+const MONTHS: [u32; 13] = [
+    486, 516, 547, 577, 608, 639, 669, 700, 730, 761, 792, 821, 852,
+];
+
+/// Northern Ireland, with every price of a month published; contract 1 is of that fuel and kind.
+fn opened_with_prices(fuel: u32, kind: u32) -> String {
+    let prices: String = (1_704..1_740)
+        .map(|entry| format!("price {entry} 20000\n"))
+        .collect();
+    format!("start 1\n{prices}open 1 {fuel} {kind} 0 0\n")
+}
+
+/// What is printed last, for the last of these lines.
+fn last_reply(lines: &str) -> String {
+    let printed = String::from_utf8(program::printed(lines.as_bytes())).expect("ASCII");
+    let reply = printed.lines().last();
+    reply.expect("a line is printed").to_string()
+}
+
+/// Holds a span of contract 1, billed, and billed again in place of a row of its first day, to a number, 0 where both are taken.
+fn expect_span(opened: &str, (first, last): (u32, u32), number: u32) {
+    let numbers = |last| format!("1 {first} {last} 10 20000 0 0 0");
+    let bill = format!("{opened}bill {}\n", numbers(last));
+    let rebill = format!(
+        "{opened}bill {}\nrebill {}\n",
+        numbers(first),
+        numbers(last)
+    );
+    for lines in [bill, rebill] {
+        let reply = last_reply(&lines);
+        let expected = match number {
+            0 => reply.starts_with("ok "),
+            _ => reply == format!("refused {number}"),
+        };
+        assert!(expected, "{first} to {last}, {number}: {reply}");
+    }
+}
+
+#[test]
+fn number_15_a_variable_or_index_span_of_two_months() {
+    for (fuel, kind) in [(0, 1), (1, 1), (0, 3)] {
+        let opened = opened_with_prices(fuel, kind);
+        for month in MONTHS.windows(2) {
+            let (begins, next) = (month[0], month[1]);
+            expect_span(&opened, (begins, next - 1), 0);
+            if next < 852 {
+                expect_span(&opened, (begins, next), 15);
+                expect_span(&opened, (next - 1, next), 15);
+            }
+        }
+        for span in [(500, 530), (486, 576), (486, 851)] {
+            expect_span(&opened, span, 15);
+        }
+        for span in [(486, 852), (486, u32::MAX), (516, 515), (485, 515)] {
+            let (first, last) = span;
+            let line = format!("{opened}bill 1 {first} {last} 10 20000 0 0 0\n");
+            assert_eq!(last_reply(&line), "refused 7", "{first} to {last}");
+        }
+    }
+}
+
+#[test]
+fn fixed_and_flexible_spans_of_two_months_are_taken() {
+    for (fuel, kind) in [(0, 0), (1, 0), (0, 2), (1, 2)] {
+        let opened = opened_with_prices(fuel, kind) + "price 0 20000\nprice 852 20000\n";
+        for span in [(515, 516), (500, 530), (486, 576), (486, 851)] {
+            expect_span(&opened, span, 0);
+        }
+    }
+}
+
 #[test]
 fn number_8_amounts_and_prices() {
     refused(
@@ -281,12 +353,24 @@ fn the_earlier_test_turns_a_line_down() {
         ],
     );
     refused(6, &["open 2 2 0 852 0", "cert 0 3 0"]);
-    // 7 before 8, 8 before 14, 9 and 10, 14 before 9, 10 and 11
+    // 7 before 15 and 8, 15 before 8, 14, 9 and 11, 8 before 14, 9 and 10, 14 before 9, 10 and 11
     refused(
         7,
         &[
             "bill 0 485 485 100000001 1 1 0 0",
             "rebill 0 485 485 100000001 1 1 0 0",
+            "bill 1 485 516 1 1 0 0 0",
+            "rebill 1 515 852 1 1 0 0 0",
+        ],
+    );
+    refused(
+        15,
+        &[
+            "bill 1 515 516 100000001 1 1 4294967295 0",
+            "bill 1 515 516 1 1 0 1 1",
+            "bill 1 515 516 1 1 0 0 0",
+            "rebill 1 515 516 100000001 1 1 4294967295 0",
+            "rebill 1 515 516 1 1 0 0 0",
         ],
     );
     refused(
@@ -309,6 +393,11 @@ fn the_earlier_test_turns_a_line_down() {
     );
     // 9 before 10: no row begins on day 487, and the span shares days with the row of 486 to 515
     refused(9, &["rebill 0 487 515 1 1 1 0 0"]);
+    // 15 before 10: April's row is held, and the span shares its last day
+    expect(
+        b"price 1716 11050\nopen 1 1 1 0 0\nbill 1 486 515 1 20000 0 0 0\nbill 1 515 516 1 20000 0 0 0\nbill 1 515 515 1 20000 0 0 0\n",
+        &["ok", "ok", "ok 11050 3500 3500", "refused 15", "refused 10"],
+    );
     // 10 before 11: the row is held, and its price is published no longer
     expect(
         b"price 1716 11050\nopen 1 1 1 0 0\nbill 1 486 515 1 20000 0 0 0\nprice 1716 0\nbill 1 515 515 1 20000 0 0 0\nrebill 1 486 515 1 20000 0 0 0\n",
