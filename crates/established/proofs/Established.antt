@@ -12,7 +12,7 @@ use Rattle.model.proofs.Run.{landlord-example}
 use Rattle.model.proofs.PriceOfEveryDay.{price-of-every-day}
 use Rattle.model.proofs.QuarterExample.{quarter-example}
 use Rattle.model.proofs.Postings.{floor-leaves-rest}
-use Rattle.layout.proofs.Theorems.{packed-size, fresh-ledger, round-trips, claims-kept, demand-three, packed-histories-hold-their-facts, packed-answers-from-the-sheet, packed-same-as-postings, number-two-first, number-two-meets-no-call}
+use Rattle.layout.proofs.Theorems.{packed-size, fresh-ledger, round-trips, claims-kept, demand-three, stored-ledgers-balance, packed-histories-hold-their-facts, packed-answers-from-the-sheet, packed-same-as-postings, number-two-first, number-two-meets-no-call}
 use Rattle.layout.proofs.LayoutExample.{layout-example}
 use Rattle.contract_calls.proofs.StartAnswers.{start-tests}
 use Rattle.text.proofs.RoundTrip.{numbers-read-back}
@@ -50,6 +50,7 @@ all-established = record {
   claims-kept = claims-kept;
   packed-histories-hold-their-facts = packed-histories-hold-their-facts;
   demand-three = demand-three;
+  stored-ledgers-balance = stored-ledgers-balance;
   packed-answers-from-the-sheet = packed-answers-from-the-sheet;
   number-two-meets-no-call = number-two-meets-no-call;
   packed-same-as-postings = packed-same-as-postings;

@@ -12,7 +12,7 @@ use Rattle.model.specs.LandlordExample.{LandlordExample}
 use Rattle.model.specs.PriceOfEveryDay.{PriceOfEveryDay}
 use Rattle.model.specs.QuarterExample.{QuarterExample}
 use Rattle.model.specs.Postings.{FloorLeavesRest}
-use Rattle.layout.specs.Theorems.{PackedSize, FreshLedger, RoundTrips, ClaimsKept, DemandThree, PackedHistoriesHoldTheirFacts, PackedAnswersFromTheSheet, PackedSameAsPostings, NumberTwoFirst, NumberTwoMeetsNoCall}
+use Rattle.layout.specs.Theorems.{PackedSize, FreshLedger, RoundTrips, ClaimsKept, DemandThree, StoredLedgersBalance, PackedHistoriesHoldTheirFacts, PackedAnswersFromTheSheet, PackedSameAsPostings, NumberTwoFirst, NumberTwoMeetsNoCall}
 use Rattle.layout.specs.LayoutExample.{LayoutExample}
 use Rattle.contract_calls.specs.Start.{StartTests}
 use Rattle.text.specs.Numbers.{NumbersReadBack}
@@ -52,6 +52,7 @@ pub record Established : Type 0 where
   pub packed-histories-hold-their-facts : PackedHistoriesHoldTheirFacts
   -- demand 3: every history balances, and the move from postings
   pub demand-three : DemandThree
+  pub stored-ledgers-balance : StoredLedgersBalance
   pub packed-answers-from-the-sheet : PackedAnswersFromTheSheet
   pub number-two-meets-no-call : NumberTwoMeetsNoCall
   pub packed-same-as-postings : PackedSameAsPostings

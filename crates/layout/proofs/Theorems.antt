@@ -12,11 +12,11 @@ use Rattle.model.specs.Ledger.{fresh}
 use Rattle.model.proofs.HoldsFacts.{bytes-hold}
 use Rattle.model.proofs.SheetAnswers.{bytes-answer-from-the-sheet, accepted-claim-leaves-rest}
 use Rattle.model.proofs.Postings.{bytes-same-as-postings}
-use Rattle.model.proofs.BytesBalance.{bytes-balance, bytes-well-formed}
+use Rattle.model.proofs.BytesBalance.{bytes-balance, bytes-balance-goes-on, bytes-well-formed}
 use Rattle.layout.specs.Layout.{headerBytes, wellFormed, format}
 use Rattle.layout.specs.Offsets.{ledgerLength}
 use Rattle.layout.specs.Present.{rules, layout, Formed, machine}
-use Rattle.layout.specs.Theorems.{PackedSize, FreshLedger, RoundTrips, ClaimsKept, DemandThree, PackedHistoriesHoldTheirFacts, PackedAnswersFromTheSheet, PackedSameAsPostings, NumberTwoMeetsNoCall, NumberTwoFirst}
+use Rattle.layout.specs.Theorems.{PackedSize, FreshLedger, RoundTrips, ClaimsKept, DemandThree, StoredLedgersBalance, PackedHistoriesHoldTheirFacts, PackedAnswersFromTheSheet, PackedSameAsPostings, NumberTwoMeetsNoCall, NumberTwoFirst}
 use Rattle.layout.proofs.RoundTrips.{unpacked-packed, well-formed-exactly}
 use Rattle.layout.proofs.Present.{present, format-laws, formed-length, facts-kept, repacked}
 use Rattle.layout.proofs.Changes.{fresh-parts}
@@ -52,6 +52,9 @@ pub demand-three : DemandThree
 demand-three =
     let balanced = bytes-balance rules (present .rules) (format rules layout) format-laws in
     record { balances = balanced; last-claim = accepted-claim-leaves-rest rules machine balanced packed-answers-from-the-sheet }
+
+pub stored-ledgers-balance : StoredLedgersBalance
+stored-ledgers-balance = bytes-balance-goes-on rules (present .rules) (format rules layout) format-laws
 
 pub packed-histories-hold-their-facts : PackedHistoriesHoldTheirFacts
 packed-histories-hold-their-facts = bytes-hold rules (present .rules) (format rules layout) format-laws

@@ -9,7 +9,7 @@ use Rattle.model.specs.Calls.{CallWithBook}
 use Rattle.model.specs.Ledger.{Ledger, fresh}
 use Rattle.model.specs.WellFormed.{WellFormed}
 use Rattle.model.specs.History.{stateAfter}
-use Rattle.model.specs.Balance.{EveryHistoryBalances}
+use Rattle.model.specs.Balance.{EveryHistoryBalances, StoredBalanceGoesOn}
 use Rattle.model.specs.HoldsFacts.{EveryHistoryHoldsItsFacts}
 use Rattle.model.specs.SheetAnswers.{EveryAnswerFromTheSheet, EveryAcceptedClaimLeavesRest}
 use Rattle.model.specs.Postings.{SameAsPostings}
@@ -42,6 +42,11 @@ pub record ClaimsKept : Type 0 where
 pub record DemandThree : Type 0 where
   pub balances : EveryHistoryBalances rules machine
   pub last-claim : EveryAcceptedClaimLeavesRest rules machine
+
+-- demand 3, from any well-formed ledger on that balances with the answers to its earlier calls: also where its rows were accepted by earlier
+-- rules, as rows across months before number 15 came
+abbrev pub StoredLedgersBalance : Type 0
+StoredLedgersBalance = StoredBalanceGoesOn rules machine Formed
 
 -- demand 2, for every history: the bytes hold exactly the sheet's facts
 abbrev pub PackedHistoriesHoldTheirFacts : Type 0

@@ -65,7 +65,7 @@ module _ (R : Rules) (ok : RulesLaws R) where
   pub pence-run : (h : List CallWithBook) (l : Ledger) (s : Sheet) → Related R l s → pos (run (step R) l h .pence) ≡ pos (l .pence) +ℤ sumℤ claimPence (replies (step R) (answer R) l h)
   pence-run = conserves (step R) (answer R) (stepS R) (Related R) keep (λ l. pos (l .pence)) claimPence pence-step
 
-  total-says : (l : Ledger) → answer R l (Call.Total with []) ≡ Totalled (dueL l) (subℕ (dueL l) (ticksPerPenny * l .pence))
+  pub total-says : (l : Ledger) → answer R l (Call.Total with []) ≡ Totalled (dueL l) (subℕ (dueL l) (ticksPerPenny * l .pence))
   unfolding answer outcome acceptL
   total-says l = subst (λ (n : ℕ). unlessRefused n (acceptL R l (Call.Total with [])) (turnedDown l n) .answers ≡ Totalled (dueL l) (subℕ (dueL l) (ticksPerPenny * l .pence))) (sym (ok .totals (viewL l) [])) refl
 

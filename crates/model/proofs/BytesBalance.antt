@@ -1,18 +1,21 @@
 -- The ledger kept as bytes, or as anything else that a well-formed ledger can be packed to and unpacked from: the same histories balance. Assumes nothing.
 use mathlib.Core.Path.{_≡_, refl, sym, subst}
 use mathlib.Core.Bool.{true}
-use mathlib.Core.List.{List, []}
+use mathlib.Core.List.{List, [], _++_}
 use Prim.Native.Nat.{ℕ, zero, suc, _≤_}
+use Rattle.model.specs.declared.Answer.{Answer}
 use Rattle.model.specs.declared.Call.{Call}
 use Rattle.model.specs.Calls.{CallWithBook, _with_}
 use Rattle.model.specs.Rules.{Rules, refusal, unlessRefused}
 use Rattle.model.specs.Ledger.{Ledger, fresh, turnedDown, outcome, step, view, accept}
-use Rattle.model.specs.History.{sheetAfter, stateAfter, ledgerMachine}
-use Rattle.model.specs.Balance.{Balanced, EveryHistoryBalances}
+use Rattle.model.specs.Sheet as Sheet
+use Rattle.model.specs.History.{run, sheetAfter, stateAfter, ledgerMachine}
+use Rattle.model.specs.Balance.{Balanced, EveryHistoryBalances, sheetOf, StoredBalanceGoesOn}
 use Rattle.model.specs.Format.{Format, bytesMachine, FormatLaws}
-use Rattle.model.proofs.Refinement.{Refines, good-after, carry}
+use Rattle.model.proofs.Refinement.{Refines, good-after, carry, carry-from}
 use Rattle.model.proofs.StaysWellFormed.{stays, fresh-formed}
 use Rattle.model.proofs.Balance.{every-history-balances}
+use Rattle.model.proofs.StoredBalance.{stored-balance-goes-on}
 use Rattle.model.proofs.RulesLaws.{RulesLaws}
 
 refused-step : (R : Rules) (l : Ledger) (c : CallWithBook) (n : ℕ) → refusal R (view l) c ≡ suc n → l ≡ step R l c
@@ -55,3 +58,11 @@ module _ (R : Rules) (ok : RulesLaws R) (f : Format) (w : FormatLaws R f) where
   bytes-balance t o h =
       carry (bytesMachine R f) (ledgerMachine R) bytes-refine t o h (λ answered next facts. Balanced R (sheetAfter R t h) answered next (facts .rows)) (Call.Total with [])
       (every-history-balances R ok t o h)
+
+  -- a stored ledger that balances goes on balancing
+  pub bytes-balance-goes-on : StoredBalanceGoesOn R (bytesMachine R f) (λ b. f .wellFormed b ≡ true)
+  bytes-balance-goes-on b s earlier stored h =
+      carry-from (bytesMachine R f) (ledgerMachine R) bytes-refine
+      (λ answered next facts. Balanced R (run (Sheet.step R) (sheetOf (f .unpack b)) h) (earlier ++ answered) next (facts .rows)) (Call.Total with []) h b s
+      (stored-balance-goes-on R ok (f .unpack b) (w .unpacked b s) earlier
+      (subst (λ (next : Answer). Balanced R (sheetOf (f .unpack b)) earlier next (f .unpack b .rows)) (bytes-refine .says b (Call.Total with []) s) stored) h)

@@ -16,6 +16,7 @@ pub mod Conservation
 pub mod StandingRows
 pub mod StaysWellFormed
 pub mod Balance
+pub mod StoredBalance
 pub mod Refinement
 pub mod BytesBalance
 pub mod HoldsFacts
