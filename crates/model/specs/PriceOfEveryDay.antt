@@ -1,5 +1,5 @@
--- Paper 2 of document 02: "Published variable and index prices are monthly, and desks have sent quarters under the first month's price. From
--- now such a bill or rebill must start and end in one scheme month." So each bill's R is the price of each of its days. Assumes nothing.
+-- Document 02, paper 2, "Variable bills within one month": "desks have sent quarters under the first month's price. From now such a bill or
+-- rebill must start and end in one scheme month." So the R of each bill is the price of each of its days. Assumes nothing.
 use mathlib.Core.Path.{_≡_}
 use mathlib.Core.Bool.{false}
 use mathlib.Core.List.{List}

@@ -1,5 +1,5 @@
--- Paper 2 of document 02: "Rows already stored stand with the price they hold, remain well formed, and still take certificates and
--- cancellation". Two quarters that were stored under April's price, with what calls answer on them. Assumes nothing.
+-- Document 02, paper 2: "Rows already stored stand with the price they hold, remain well formed, and still take certificates and
+-- cancellation." Two quarters that were stored under April's price, and calls on them with their answers. Assumes nothing.
 use mathlib.Core.Path.{_≡_}
 use mathlib.Core.List.{List, [], _∷_, _++_, map}
 use Prim.Native.Nat.{ℕ}

@@ -1,4 +1,4 @@
-// The ranges of document 01, of paper 1 and of paper 2: the tests of what a call gives, and of what a well-formed ledger holds.
+// The ranges of document 01 and of papers 1 and 2: the tests of what a call gives, and of what a well-formed ledger holds.
 use crate::book::no_price;
 use crate::codes;
 use limits::FIRST_QHS_DAY;
