@@ -1,8 +1,9 @@
 //! Codes of territories, fuels, kinds and classes, and the ranges of days, kWh, prices and
 //! shares (document 01, sections "Contracts and the price book" and "Turned down, in
-//! checking order", numbers 6 to 8; document 02, paper 1, number 14).
+//! checking order", numbers 6 to 8; document 02, paper 1, number 14, and paper 2,
+//! number 15).
 
-use crate::dates::LAST_DAY;
+use crate::dates::{scheme_month, LAST_DAY};
 use crate::rates::{Certificate, Fuel, Kind};
 use std::ops::RangeInclusive;
 
@@ -94,6 +95,15 @@ impl Kind {
             Kind::DayAheadIndex => (INDEX_CODE, 0, 0),
         }
     }
+
+    /// Whether the kind's prices are published by the month: those of variable and index
+    /// contracts are.
+    pub fn has_monthly_prices(self) -> bool {
+        match self {
+            Kind::Variable | Kind::DayAheadIndex => true,
+            Kind::Fixed { .. } | Kind::Flexible => false,
+        }
+    }
 }
 
 impl Certificate {
@@ -152,6 +162,12 @@ pub(crate) fn effective_day_in_range(certificate: Certificate, effective_day: u3
 /// Number 7: whether 486 ≤ first ≤ last ≤ 851.
 pub(crate) fn span_in_range(first_day: u32, last_day: u32) -> bool {
     SCHEME_FIRST_DAY <= first_day && first_day <= last_day && last_day <= LAST_DAY
+}
+
+/// Number 15: whether a contract of the kind has monthly prices and the span, which is in
+/// range, touches two scheme months.
+pub(crate) fn touches_two_months(kind: Kind, first_day: u32, last_day: u32) -> bool {
+    kind.has_monthly_prices() && scheme_month(first_day) != scheme_month(last_day)
 }
 
 /// Number 14: whether the two shares exceed kWh. Their sum may need more than 32 bits.

@@ -1,20 +1,21 @@
 //! The old posting module: it writes each bill, reversal and reissue as a signed posting and
 //! adds the postings up. It answers the calls of document 01, section "Calls", and refuses
-//! by numbers 3 to 13 of the section "Turned down, in checking order" and number 14 of
-//! document 02, paper 1.
+//! by numbers 3 to 13 of the section "Turned down, in checking order" and numbers 14 and 15
+//! of document 02, papers 1 and 2.
 
 use crate::book;
 use crate::calls::{BillNumbers, Call, Outcome};
 use crate::codes::{
     contract_days_in_range, effective_day_in_range, kind_in_its_place, shares_exceed_kwh,
-    span_in_range, spans_share_a_day, Territory, HIGHEST_PRICE, MOST_KWH,
+    span_in_range, spans_share_a_day, touches_two_months, Territory, HIGHEST_PRICE, MOST_KWH,
 };
 use crate::facts::{Facts, Row, CONTRACTS, MOST_CLAIMS, MOST_ROWS};
 use crate::rates::{self, Bill, Certificate, Contract, Fuel, Kind};
 use crate::refusals::{
     refuse_if, CLAIMS_USED_UP, CODE_WITHOUT_MEANING, CONTRACT_NUMBER_TOO_HIGH,
     CONTRACT_OPEN_ALREADY_OR_NOT_OPEN, DAY_SHARED, NO_SUCH_ROW, NUMBER_OUT_OF_RANGE,
-    PRICE_NOT_PUBLISHED, ROWS_FULL, SHARES_EXCEED_KWH, WRONG_BOOK, WRONG_DAY,
+    PRICE_NOT_PUBLISHED, ROWS_FULL, SHARES_EXCEED_KWH, SPAN_TOUCHES_TWO_MONTHS, WRONG_BOOK,
+    WRONG_DAY,
 };
 use std::collections::BTreeMap;
 
@@ -234,11 +235,15 @@ impl PostingModule {
         self.postings.push(Posting { contract, amount });
     }
 
-    /// The contract of a bill or rebill that numbers 3 to 8 and 14 don't refuse.
+    /// The contract of a bill or rebill that numbers 3 to 8, 14 and 15 don't refuse.
     fn billed_contract(&self, book: &[u32], numbers: BillNumbers) -> Result<Contract, u32> {
         refuse_if(!book::is_usable(book), WRONG_BOOK)?;
         let contract = self.open_contract(numbers.contract)?;
         refuse_if(!span_in_range(numbers.first, numbers.last), WRONG_DAY)?;
+        refuse_if(
+            touches_two_months(contract.kind, numbers.first, numbers.last),
+            SPAN_TOUCHES_TWO_MONTHS,
+        )?;
         refuse_if(
             !bill_numbers_in_range(contract.kind, numbers),
             NUMBER_OUT_OF_RANGE,

@@ -1,5 +1,5 @@
-//! The refusals' numbers (document 01, section "Turned down, in checking order"; number 14
-//! is document 02's, paper 1).
+//! The refusals' numbers (document 01, section "Turned down, in checking order"; numbers 14
+//! and 15 are document 02's, papers 1 and 2).
 
 /// The program's line can't be read.
 pub const UNREADABLE_LINE: u32 = 1;
@@ -30,9 +30,11 @@ pub const ROWS_FULL: u32 = 12;
 pub const CLAIMS_USED_UP: u32 = 13;
 /// The two shares exceed kWh; tested after number 8.
 pub const SHARES_EXCEED_KWH: u32 = 14;
+/// A variable or index span touches two months; tested after number 7.
+pub const SPAN_TOUCHES_TWO_MONTHS: u32 = 15;
 
 /// The highest refusal number.
-pub const LAST_REFUSAL: u32 = SHARES_EXCEED_KWH;
+pub const LAST_REFUSAL: u32 = SPAN_TOUCHES_TWO_MONTHS;
 
 /// Refuses by the number where the condition holds.
 pub(crate) fn refuse_if(condition: bool, number: u32) -> Result<(), u32> {

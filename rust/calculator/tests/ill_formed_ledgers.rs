@@ -2,10 +2,12 @@
 //! paper 1, each, beside neighbours that keep it.
 
 mod common;
+mod paper_run;
 
 use calculator::layout::{ContractNumbers, LedgerNumbers, RowNumbers, LEDGER_BYTES};
 use calculator::packed::{call_on_bytes, unpack};
-use common::{call, paper_run};
+use common::call;
+use paper_run::paper_run;
 
 /// A well-formed ledger: in Northern Ireland, contract 0 flexible electricity with an ETII
 /// certificate, contract 1 fixed gas, contract 2 index; rows 0 and 1 of contract 0, row 2 of

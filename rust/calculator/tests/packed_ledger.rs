@@ -1,11 +1,13 @@
 //! The packed ledger: its layout, both round trips, and the calls on its bytes.
 
 mod common;
+mod paper_run;
 
 use calculator::codes::Territory;
 use calculator::packed::{call_on_bytes, pack, unpack, Facts, LEDGER_BYTES};
 use calculator::postings::PostingModule;
-use common::{call, paper_run};
+use common::call;
+use paper_run::paper_run;
 
 const NO_PRICES: [u32; 1_740] = [0; 1_740];
 

@@ -1,41 +1,15 @@
 //! The posting module's answers to the calls of document 01.
 
 mod common;
+mod desk;
+mod paper_run;
 
-use calculator::calls::{BillNumbers, Call, Outcome};
+use calculator::calls::{BillNumbers, Call};
 use calculator::codes::Territory;
 use calculator::postings::PostingModule;
-use common::{call, paper_run};
-
-/// A posting module with the book that its bills bring.
-struct Desk {
-    module: PostingModule,
-    book: Vec<u32>,
-}
-
-impl Desk {
-    fn new(territory: Territory) -> Desk {
-        Desk {
-            module: PostingModule::new(territory),
-            book: vec![0; 1_740],
-        }
-    }
-
-    fn outcome(&mut self, line: &str) -> Outcome {
-        self.module.call(&self.book, &call(line))
-    }
-
-    fn expect(&mut self, line: &str, numbers: &[i64]) {
-        assert_eq!(self.outcome(line), Ok(numbers.to_vec()), "{line}");
-    }
-
-    /// The line is refused by the number and changes no fact.
-    fn expect_refusal(&mut self, line: &str, number: u32) {
-        let before = self.module.facts();
-        assert_eq!(self.outcome(line), Err(number), "{line}");
-        assert_eq!(self.module.facts(), before, "{line}");
-    }
-}
+use common::call;
+use desk::Desk;
+use paper_run::paper_run;
 
 fn great_britain() -> Desk {
     Desk::new(Territory::GreatBritain)
@@ -77,13 +51,14 @@ fn prices_come_from_the_entry_of_the_kind_fuel_and_month() {
     desk.expect("open 1 1 0 851 0", &[]);
     desk.expect("bill 1 600 600 1 99999 0 0 0", &[10_702, 20, 20]);
     desk.expect("open 2 1 1 0 0", &[]);
-    desk.expect("bill 2 516 600 1 99999 0 0 0", &[10_703, 30, 30]);
+    desk.expect("bill 2 516 546 1 99999 0 0 0", &[10_703, 30, 30]);
     desk.expect("open 3 0 1 0 0", &[]);
     desk.expect("bill 3 851 851 1 99999 0 0 0", &[30_204, 40, 40]);
     desk.expect("open 4 0 3 0 0", &[]);
-    desk.expect("bill 4 515 600 1 99999 0 0 0", &[30_205, 50, 50]);
-    desk.expect_refusal("bill 4 516 516 1 99999 0 0 0", 10);
-    desk.expect_refusal("bill 4 601 601 1 99999 0 0 0", 11);
+    desk.expect("bill 4 486 515 1 99999 0 0 0", &[30_205, 50, 50]);
+    desk.book[1_728] = 0;
+    desk.expect_refusal("bill 4 515 515 1 99999 0 0 0", 10);
+    desk.expect_refusal("bill 4 516 516 1 99999 0 0 0", 11);
 }
 
 #[test]

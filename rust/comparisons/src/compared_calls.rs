@@ -13,13 +13,19 @@ pub struct LedgerCall<'a> {
     pub call: &'a Call,
 }
 
-/// Compares a call and gives the ledger that it leaves by the calculator. The place says
-/// where in the comparisons the call stands.
+/// What a call answers and the ledger that it leaves, by the calculator.
+pub struct Expected {
+    pub outcome: Outcome,
+    pub ledger: Vec<u8>,
+}
+
+/// Compares a call and gives what the calculator expects of it. The place says where in the
+/// comparisons the call stands.
 pub fn compare_call(
     findings: &mut Findings,
     ledger_call: &LedgerCall,
     place: impl Fn() -> String,
-) -> Vec<u8> {
+) -> Expected {
     let &LedgerCall { ledger, book, call } = ledger_call;
     let mut expected_ledger = ledger.to_vec();
     let outcome = call_on_bytes(&mut expected_ledger, book, call);
@@ -38,7 +44,10 @@ pub fn compare_call(
             });
         }
     }
-    expected_ledger
+    Expected {
+        outcome,
+        ledger: expected_ledger,
+    }
 }
 
 /// Compares a call that reads no ledger.

@@ -1,6 +1,7 @@
-//! What the comparisons met: sessions, calls, refusals, damaged ledgers and differences.
+//! What the comparisons met: sessions, calls, refusals, rows, damaged ledgers and differences.
 
-use crate::rows_met::RowsMet;
+use crate::sorts::Sorts;
+use crate::{rows_across_months, rows_met};
 use calculator::calls::Outcome;
 use calculator::refusals::LAST_REFUSAL;
 use std::collections::BTreeMap;
@@ -8,6 +9,9 @@ use std::fmt::Display;
 
 /// How often each refusal, each accepted call and each sort of row must be met.
 const FEWEST_MET: u64 = 100;
+
+/// How often each sort of call on rows across months must be met.
+const FEWEST_MET_ACROSS_MONTHS: u64 = 1_000;
 
 /// The differences that are printed in full.
 const DIFFERENCES_PRINTED: u64 = 3;
@@ -39,7 +43,9 @@ pub struct Findings {
     pub program: Counts,
     pub library: Counts,
     /// The rows at the ends of the library's histories, and certificates in them.
-    pub rows: RowsMet,
+    pub rows: Sorts,
+    /// The calls on rows across months.
+    pub rows_across_months: Sorts,
     damages: BTreeMap<String, DamageCounts>,
     differences: u64,
 }
@@ -109,7 +115,8 @@ impl Findings {
         Findings {
             program: Counts::new("program", program_refusals, program_calls),
             library: Counts::new("library and twin", library_refusals, library_calls),
-            rows: RowsMet::default(),
+            rows: Sorts::new(rows_met::sorts(), FEWEST_MET),
+            rows_across_months: Sorts::new(rows_across_months::sorts(), FEWEST_MET_ACROSS_MONTHS),
             damages: BTreeMap::new(),
             differences: 0,
         }
@@ -135,7 +142,11 @@ impl Findings {
     pub fn print(&self) {
         self.program.print();
         self.library.print();
-        println!("  rows: {}", listed(self.rows.required()));
+        println!("  rows: {}", listed(self.rows.met()));
+        println!(
+            "  rows across months: {}",
+            listed(self.rows_across_months.met())
+        );
         println!("damaged ledgers:");
         for (kind, counts) in &self.damages {
             let DamageCounts {
@@ -159,12 +170,13 @@ impl Findings {
     /// What must be met and was met too few times, and how often it was.
     fn met_too_few_times(&self) -> Vec<(String, u64)> {
         let calls = [&self.program, &self.library].map(Counts::required);
-        let met = calls.concat().into_iter().chain(self.rows.required());
-        let met_too_few_times = met.filter(|&(_, times)| times < FEWEST_MET);
+        let calls = calls.concat().into_iter();
+        let calls = calls.filter(|&(_, times)| times < FEWEST_MET);
+        let sorts = [&self.rows, &self.rows_across_months].map(Sorts::met_too_few_times);
         let damages = self.damages.iter();
         let damages = damages.filter(|(_, counts)| counts.tried < counts.fewest);
-        let damaged_too_few_times = damages.map(|(kind, counts)| (kind.clone(), counts.tried));
-        met_too_few_times.chain(damaged_too_few_times).collect()
+        let damages = damages.map(|(kind, counts)| (kind.clone(), counts.tried));
+        calls.chain(sorts.concat()).chain(damages).collect()
     }
 }
 
@@ -180,7 +192,6 @@ fn listed<Name: Display>(counts: impl IntoIterator<Item = (Name, u64)>) -> Strin
 #[cfg(test)]
 mod tests {
     use super::{DamageCounts, Findings, FEWEST_MET};
-    use crate::rows_met::RowsMet;
 
     /// Everything that must be met, met often enough.
     fn sufficient_findings() -> Findings {
@@ -196,7 +207,8 @@ mod tests {
                     .for_each(|name| side.count_outcome(name, &Ok(vec![])));
             }
         }
-        findings.rows = RowsMet::each_met(FEWEST_MET);
+        findings.rows.count_each_often_enough();
+        findings.rows_across_months.count_each_often_enough();
         findings
     }
 
@@ -208,6 +220,20 @@ mod tests {
     #[test]
     fn everything_met_often_enough_passes() {
         assert!(sufficient_findings().passed());
+    }
+
+    #[test]
+    fn each_of_the_sorts_must_be_met() {
+        let all_but_rows = Findings {
+            rows: Findings::new().rows,
+            ..sufficient_findings()
+        };
+        assert!(!all_but_rows.passed());
+        let all_but_rows_across_months = Findings {
+            rows_across_months: Findings::new().rows_across_months,
+            ..sufficient_findings()
+        };
+        assert!(!all_but_rows_across_months.passed());
     }
 
     #[test]

@@ -1,7 +1,9 @@
-//! Random calls that mean something to a ledger: they bill open contracts on free days,
-//! rebill and cancel rows that are held, and date certificates by them. Some get a number
-//! that is off by one or has nothing to do with the ledger.
+//! Random calls that mean something to a ledger: they bill open contracts on free days, mostly
+//! within one month where their prices are monthly, rebill and cancel rows that are held, and
+//! date certificates by them. Some get a number that is off by one or has nothing to do with
+//! the ledger.
 
+use crate::months::month_end;
 use crate::random::Random;
 use calculator::calls::{BillNumbers, Call};
 use calculator::codes::{spans_share_a_day, Territory, HIGHEST_PRICE, MOST_KWH, SCHEME_FIRST_DAY};
@@ -50,6 +52,21 @@ pub const CLAIMING: &Profile = &[
     (1, cancel),
     (90, claim),
     (1, total),
+];
+
+/// Contracts with a few bills each.
+pub const BILLING: &Profile = &[(10, open), (40, bill), (5, cert), (1, claim)];
+
+/// Calls on the rows that are held and on their contracts.
+pub const ON_ROWS: &Profile = &[
+    (12, bill),
+    (13, rebill),
+    (6, rebill_of_same_span),
+    (48, cert),
+    (10, cancel),
+    (1, claim),
+    (8, report),
+    (2, total),
 ];
 
 /// First days at the edges of the scheme, of QHS certificates and of the new QHS minimum.
@@ -197,7 +214,16 @@ fn rebill(random: &mut Random, facts: &Facts) -> Call {
         1 => first,
         _ => last,
     };
-    Call::Rebill(bill_numbers(random, facts, row.contract, (first, last)))
+    let span = span_of_contract(random, facts, row.contract, (first, last));
+    Call::Rebill(bill_numbers(random, facts, row.contract, span))
+}
+
+/// The rebill of a held row, which keeps its span.
+fn rebill_of_same_span(random: &mut Random, facts: &Facts) -> Call {
+    let Some(row) = held_row(random, facts) else {
+        return bill(random, facts);
+    };
+    Call::Rebill(bill_numbers(random, facts, row.contract, row.span()))
 }
 
 /// The certificate starts with a row of the contract or a day later, mostly.
@@ -260,8 +286,7 @@ fn bill_numbers(
         _ => random.within(0..=99_999),
     };
     let (etii_share, qhs_share) = random_shares(random, kwh);
-    let terms = facts.contracts.get(contract as usize).copied().flatten();
-    let flexible = terms.is_some_and(|terms| terms.kind == Kind::Flexible);
+    let flexible = kind_of(facts, contract) == Some(Kind::Flexible);
     BillNumbers {
         contract,
         first,
@@ -331,6 +356,11 @@ fn open_contract(random: &mut Random, facts: &Facts) -> u32 {
     number_of(random, &contract_numbers(facts, true))
 }
 
+fn kind_of(facts: &Facts, contract: u32) -> Option<Kind> {
+    let contract = facts.contracts.get(contract as usize)?.as_ref()?;
+    Some(contract.kind)
+}
+
 fn held_row(random: &mut Random, facts: &Facts) -> Option<Row> {
     let rows = &facts.rows;
     (!rows.is_empty()).then(|| random.one_of(rows))
@@ -353,25 +383,52 @@ fn entry_day(random: &mut Random) -> u32 {
     }
 }
 
+/// A day of the scheme, at times the last of a month or the first of the next.
 fn first_day(random: &mut Random) -> u32 {
-    if random.once_in(4) {
-        random.one_of(&BOUNDARY_DAYS)
-    } else {
-        random.within(SCHEME_FIRST_DAY..=LAST_DAY)
+    let day = random.within(SCHEME_FIRST_DAY..=LAST_DAY);
+    match random.below(8) {
+        0 | 1 => random.one_of(&BOUNDARY_DAYS),
+        2 => random.one_of(&[month_end(day), LAST_DAY.min(month_end(day) + 1)]),
+        _ => day,
     }
 }
 
 /// A span of the contract that shares no day with its rows, if one is found in a few tries.
 fn free_span(random: &mut Random, facts: &Facts, contract: u32, most_days: u32) -> (u32, u32) {
-    let mut span = any_span(random, most_days);
+    let mut draw = || {
+        let span = any_span(random, most_days);
+        span_of_contract(random, facts, contract, span)
+    };
+    let mut span = draw();
     for _ in 0..6 {
         let mut rows = facts.rows.iter().filter(|row| row.contract == contract);
         if !rows.any(|row| spans_share_a_day(row.span(), span)) {
             break;
         }
-        span = any_span(random, most_days);
+        span = draw();
     }
     span
+}
+
+/// The span for a bill of the contract: where its prices are monthly, the span mostly ends in
+/// its first month, at times with the month's last day or one more.
+fn span_of_contract(
+    random: &mut Random,
+    facts: &Facts,
+    contract: u32,
+    (first, last): (u32, u32),
+) -> (u32, u32) {
+    if !kind_of(facts, contract).is_some_and(Kind::has_monthly_prices) {
+        return (first, last);
+    }
+    let month_end = month_end(first);
+    let last = match random.below(10) {
+        0 => last,
+        1 => month_end,
+        2 => month_end + 1,
+        _ => last.min(month_end),
+    };
+    (first, last)
 }
 
 fn any_span(random: &mut Random, most_days: u32) -> (u32, u32) {
@@ -382,9 +439,12 @@ fn any_span(random: &mut Random, most_days: u32) -> (u32, u32) {
 
 #[cfg(test)]
 mod tests {
-    use super::{random_shares, HIGH_SHARES};
+    use super::{random_shares, span_of_contract, HIGH_SHARES};
     use crate::random::Random;
-    use std::collections::BTreeSet;
+    use calculator::codes::Territory;
+    use calculator::packed::Facts;
+    use calculator::rates::{Certificate, Contract, Fuel, Kind};
+    use std::collections::{BTreeMap, BTreeSet};
 
     #[test]
     fn shares_at_every_edge_of_kwh_are_drawn() {
@@ -405,6 +465,47 @@ mod tests {
         };
         for sum in [999, 1_000, 1_001] {
             assert!(drawn.iter().any(both(sum)), "{sum}");
+        }
+    }
+
+    /// How often each last day is drawn for a bill of a contract of the kind whose span would be
+    /// day 510 to the last day given.
+    fn last_days(kind: Kind, last: u32) -> BTreeMap<u32, u32> {
+        let mut facts = Facts::fresh(Territory::NorthernIreland);
+        facts.contracts[0] = Some(Contract {
+            fuel: Fuel::Electricity,
+            kind,
+            certificate: Certificate::None,
+        });
+        let mut random = Random::new(1, "spans", 0);
+        let mut times = BTreeMap::new();
+        for _ in 0..1_000 {
+            let (_, drawn) = span_of_contract(&mut random, &facts, 0, (510, last));
+            *times.entry(drawn).or_default() += 1;
+        }
+        times
+    }
+
+    #[test]
+    fn bills_at_monthly_prices_mostly_end_in_their_month() {
+        for kind in [Kind::Variable, Kind::DayAheadIndex] {
+            let times = last_days(kind, 530);
+            assert!(times.keys().eq(&[515, 516, 530]));
+            assert!(times[&515] > 700);
+            let times = last_days(kind, 512);
+            assert!(times.keys().eq(&[512, 515, 516]));
+            assert!(times[&512] > 700);
+        }
+    }
+
+    #[test]
+    fn other_bills_keep_their_span() {
+        let fixed = Kind::Fixed {
+            price_fix_day: 0,
+            entry_day: 0,
+        };
+        for kind in [fixed, Kind::Flexible] {
+            assert!(last_days(kind, 530).keys().eq(&[530]));
         }
     }
 }

@@ -7,7 +7,8 @@ use crate::compared_calls::{compare_call, LedgerCall};
 use crate::counts::Findings;
 use crate::generator::{random_call, start, Profile, CLAIMING, FILLING, MIXED};
 use crate::random::Random;
-use calculator::calls::Call;
+use crate::rows_met::{count_certificate, count_rows};
+use calculator::calls::{Call, Outcome};
 use calculator::codes::Territory;
 use calculator::packed::{unpack, Facts, LEDGER_BYTES};
 
@@ -23,7 +24,7 @@ struct Histories {
 const HISTORIES: [Histories; 3] = [
     Histories {
         kind: "mixed histories",
-        count: 1_600,
+        count: 1_750,
         calls: 70,
         profile: MIXED,
     },
@@ -59,21 +60,34 @@ fn compare_history(findings: &mut Findings, histories: &Histories, seed: u64, nu
     let mut facts = Facts::fresh(Territory::GreatBritain);
     let mut call = start(&mut random, &facts);
     for step in 0..=histories.calls {
-        let book = random_book(&mut random, &call);
-        let ledger_call = LedgerCall {
-            ledger: &ledger,
-            book: &book,
-            call: &call,
-        };
-        ledger = compare_call(findings, &ledger_call, || {
-            format!("seed {seed}, {kind}, number {number}, call {step}")
-        });
-        let left = unpack(&ledger).expect("a history leaves a well-formed ledger");
+        let place = || format!("seed {seed}, {kind}, number {number}, call {step}");
+        let (_, left) = compare_next_call(findings, &mut random, &mut ledger, &call, place);
         if let Call::Cert { contract, .. } = call {
-            findings.rows.count_certificate(contract, &facts, &left);
+            count_certificate(&mut findings.rows, contract, &facts, &left);
         }
         facts = left;
         call = random_call(&mut random, &facts, histories.profile);
     }
-    findings.rows.count(&facts);
+    count_rows(&mut findings.rows, &facts);
+}
+
+/// Compares the next call of a history, with a book of its own, and gives its outcome and the
+/// facts that it leaves in the ledger.
+pub fn compare_next_call(
+    findings: &mut Findings,
+    random: &mut Random,
+    ledger: &mut Vec<u8>,
+    call: &Call,
+    place: impl Fn() -> String,
+) -> (Outcome, Facts) {
+    let book = random_book(random, call);
+    let ledger_call = LedgerCall {
+        ledger,
+        book: &book,
+        call,
+    };
+    let expected = compare_call(findings, &ledger_call, place);
+    *ledger = expected.ledger;
+    let left = unpack(ledger).expect("a history leaves a well-formed ledger");
+    (expected.outcome, left)
 }

@@ -11,10 +11,14 @@ mod dates;
 mod generator;
 mod implementations;
 mod library_histories;
+mod months;
 mod program_sessions;
 mod random;
+mod rows_across_months;
 mod rows_met;
 mod session_text;
+mod sorts;
+mod stored_rows;
 mod unreadable_lines;
 
 use counts::Findings;
@@ -34,6 +38,7 @@ fn main() -> ExitCode {
     program_sessions::compare(&mut findings, seed);
     dates::compare(&mut findings);
     library_histories::compare(&mut findings, seed);
+    stored_rows::compare(&mut findings, seed);
     damaged_ledgers::compare(&mut findings, seed);
     findings.print();
     if findings.passed() {

@@ -33,7 +33,7 @@ struct Sessions {
 const SESSIONS: [Sessions; 3] = [
     Sessions {
         kind: "mixed sessions",
-        count: 6_000,
+        count: 6_500,
         calls: 1..=70,
         profile: MIXED,
     },

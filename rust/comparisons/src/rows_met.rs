@@ -2,10 +2,10 @@
 //! the class that is set aside and the QHS minimum; the certificates that re-rated rows beside
 //! them.
 
+use crate::sorts::Sorts;
 use calculator::codes::QHS_FIRST_DAY;
 use calculator::packed::{Facts, Row};
 use calculator::rates::{class_of_bill, Bill, Class, Contract, Fuel, Kind, NEW_QHS_MINIMUM_DAY};
-use std::collections::BTreeMap;
 
 /// The names of the kinds in the order of their codes.
 const KINDS: [&str; 4] = ["fixed", "variable", "flexible", "index"];
@@ -34,67 +34,46 @@ const QHS_SHARES: [&str; 4] = [
 
 const RE_RATED: &str = "certificate that re-rated rows beside rows with shares";
 
-/// How many rows of each sort were held, and how many certificates re-rated rows.
-#[derive(Default)]
-pub struct RowsMet {
-    counts: BTreeMap<String, u64>,
+/// Counts the held rows.
+pub fn count_rows(sorts: &mut Sorts, facts: &Facts) {
+    for row in &facts.rows {
+        for sort in sorts_of_row(&contract_of(facts, row), &row.bill) {
+            sorts.count(&sort);
+        }
+    }
 }
 
-impl RowsMet {
-    /// Counts the held rows.
-    pub fn count(&mut self, facts: &Facts) {
-        for row in &facts.rows {
-            let contract = facts.contracts[row.contract as usize];
-            let contract = contract.expect("the contract of a held row is open");
-            for sort in sorts_of_row(&contract, &row.bill) {
-                self.count_sort(sort);
-            }
-        }
+/// Counts a certificate of the contract that changed amounts while the contract has a row with
+/// shares.
+pub fn count_certificate(sorts: &mut Sorts, contract: u32, before: &Facts, after: &Facts) {
+    let of_contract = |row: &&Row| row.contract == contract;
+    let rows_before = before.rows.iter().filter(of_contract);
+    let rows_after = after.rows.iter().filter(of_contract);
+    let beside_shares = rows_after.clone().any(|row| row.bill.has_shares());
+    if beside_shares && !rows_before.eq(rows_after) {
+        sorts.count(RE_RATED);
     }
+}
 
-    /// Counts a certificate of the contract that changed amounts while the contract has a row
-    /// with shares.
-    pub fn count_certificate(&mut self, contract: u32, before: &Facts, after: &Facts) {
-        let of_contract = |row: &&Row| row.contract == contract;
-        let rows_before = before.rows.iter().filter(of_contract);
-        let rows_after = after.rows.iter().filter(of_contract);
-        let beside_shares = rows_after.clone().any(|row| row.bill.has_shares());
-        if beside_shares && !rows_before.eq(rows_after) {
-            self.count_sort(RE_RATED.to_string());
-        }
-    }
+/// The contract of a held row.
+pub fn contract_of(facts: &Facts, row: &Row) -> Contract {
+    facts.contracts[row.contract as usize].expect("the contract of a held row is open")
+}
 
-    fn count_sort(&mut self, sort: String) {
-        *self.counts.entry(sort).or_default() += 1;
-    }
-
-    /// Every sort that must be met, met that often.
-    #[cfg(test)]
-    pub fn each_met(times: u64) -> RowsMet {
-        let counts = required_sorts().into_iter().map(|sort| (sort, times));
-        RowsMet {
-            counts: counts.collect(),
-        }
-    }
-
-    /// Each sort that must be met, and how often it was.
-    pub fn required(&self) -> Vec<(String, u64)> {
-        let sorts = required_sorts().into_iter();
-        let counted = sorts.map(|sort| {
-            let times = self.counts.get(&sort).copied().unwrap_or_default();
-            (sort, times)
-        });
-        counted.collect()
-    }
+/// The kind and the fuel of a contract.
+pub fn contract_name(contract: &Contract) -> String {
+    let (kind, _, _) = contract.kind.numbers();
+    kind_and_fuel(KINDS[kind as usize], contract.fuel)
 }
 
 /// Every sort; index contracts are for electricity only.
-fn required_sorts() -> Vec<String> {
+pub fn sorts() -> Vec<String> {
     let mut sorts = Vec::new();
     for fuel in FUELS {
         for kind in &KINDS[..if fuel == Fuel::Gas { 3 } else { 4 }] {
-            sorts.extend(CLASSES.map(|class| sort_by_contract(fuel, kind, class_name(class))));
-            sorts.extend(SHARES.map(|shares| sort_by_contract(fuel, kind, shares)));
+            let contract = kind_and_fuel(kind, fuel);
+            sorts.extend(CLASSES.map(|class| format!("{contract} {}", class_name(class))));
+            sorts.extend(SHARES.map(|shares| format!("{contract} {shares}")));
         }
     }
     for shares in SHARES {
@@ -107,14 +86,13 @@ fn required_sorts() -> Vec<String> {
 
 /// The sorts that a row is of.
 fn sorts_of_row(contract: &Contract, bill: &Bill) -> Vec<String> {
-    let (kind, _, _) = contract.kind.numbers();
-    let kind = KINDS[kind as usize];
+    let name = contract_name(contract);
     let class = class_of_bill(contract.certificate, bill.first_day);
     let Some(shares) = shares_of(bill) else {
-        return vec![sort_by_contract(contract.fuel, kind, class_name(class))];
+        return vec![format!("{name} {}", class_name(class))];
     };
     let mut sorts = vec![
-        sort_by_contract(contract.fuel, kind, shares),
+        format!("{name} {shares}"),
         sort_by_certificate(shares, class),
     ];
     if bill.qhs_share != 0 {
@@ -150,12 +128,12 @@ fn sort_by_qhs_minimum(kind: Kind, first_day: u32) -> Option<&'static str> {
     })
 }
 
-fn sort_by_contract(fuel: Fuel, kind: &str, class_or_shares: &str) -> String {
+fn kind_and_fuel(kind: &str, fuel: Fuel) -> String {
     let fuel = match fuel {
         Fuel::Electricity => "electricity",
         Fuel::Gas => "gas",
     };
-    format!("{kind} {fuel} {class_or_shares}")
+    format!("{kind} {fuel}")
 }
 
 /// The sort by the class that a bill without shares would have.
@@ -173,14 +151,15 @@ fn class_name(class: Class) -> &'static str {
 
 #[cfg(test)]
 mod tests {
-    use super::{RowsMet, RE_RATED};
+    use super::{count_certificate, RE_RATED};
+    use crate::sorts::Sorts;
     use calculator::calls::Call;
     use calculator::codes::Territory;
     use calculator::postings::PostingModule;
 
-    /// How often certificates that re-rated rows are counted for an ETII certificate of a
-    /// flexible contract with these bills: a first day and an ETII share each.
-    fn re_rated(bills: &[(u32, u32)]) -> u64 {
+    /// Whether an ETII certificate of a flexible contract with these bills, a first day and an
+    /// ETII share each, is counted as one that re-rated rows.
+    fn re_rated(bills: &[(u32, u32)]) -> bool {
         let book = [0; 1_740];
         let mut module = PostingModule::new(Territory::GreatBritain);
         let mut call = |name, numbers: &[u32]| {
@@ -197,16 +176,16 @@ mod tests {
             );
         }
         let (before, after) = call("cert", &[5, 1, 500]);
-        let mut rows = RowsMet::default();
-        rows.count_certificate(5, &before, &after);
-        rows.counts.get(RE_RATED).copied().unwrap_or_default()
+        let mut sorts = Sorts::new(vec![RE_RATED.to_string()], 1);
+        count_certificate(&mut sorts, 5, &before, &after);
+        sorts.met_too_few_times().is_empty()
     }
 
     #[test]
     fn a_certificate_is_counted_where_it_re_rated_rows_beside_rows_with_shares() {
-        assert_eq!(re_rated(&[(500, 0), (501, 4)]), 1);
-        assert_eq!(re_rated(&[(500, 0), (501, 0)]), 0);
-        assert_eq!(re_rated(&[(500, 3), (501, 4)]), 0);
-        assert_eq!(re_rated(&[(499, 0), (501, 4)]), 0);
+        assert!(re_rated(&[(500, 0), (501, 4)]));
+        assert!(!re_rated(&[(500, 0), (501, 0)]));
+        assert!(!re_rated(&[(500, 3), (501, 4)]));
+        assert!(!re_rated(&[(499, 0), (501, 4)]));
     }
 }
