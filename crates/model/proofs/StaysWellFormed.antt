@@ -1,4 +1,4 @@
--- Each call leaves a well-formed ledger well formed. Assumes nothing.
+-- Each call leaves a well-formed ledger well formed, and so does every list of calls. Assumes nothing.
 use mathlib.Core.Path.{_≡_, refl, sym, ap, _∙_}
 use mathlib.Core.Logic.{_≢_}
 use mathlib.Core.Bool.{Bool, true, false, not, cond, _&&_, false≢true, true≢false}
@@ -23,6 +23,7 @@ use Rattle.model.specs.Calls.{CallWithBook, View, named, sharing, reques
 use Rattle.model.specs.Rules.{Rules, refusal, partOfDue}
 use Rattle.model.specs.WellFormed.{RowOk, before, Apart, WellFormed}
 use Rattle.model.specs.Ledger.{Ledger, insert, remove, replace, sortsAfter, withRows, priced, rerated, fresh, step, view as viewL, accept as acceptL}
+use Rattle.model.specs.History.{run}
 use Rattle.model.proofs.Outcomes.{either-outcome}
 use Rattle.model.proofs.RowSums.{total-insert}
 use Rattle.model.proofs.RulesLaws.{Taken, Opened, Certified, RulesLaws}
@@ -224,6 +225,10 @@ module _ (R : Rules) (ok : RulesLaws R) where
   pub stays : (l : Ledger) (c : CallWithBook) → WellFormed R l → WellFormed R (step R l c)
   unfolding step
   stays l c w = either-outcome R l c (λ o. WellFormed R (o .next)) (stays-act l c w) (λ n e. w)
+
+  pub stays-run : (h : List CallWithBook) (l : Ledger) → WellFormed R l → WellFormed R (run (step R) l h)
+  stays-run [] l w = w
+  stays-run (c ∷ h) l w = stays-run h (step R l c) (stays l c w)
 
 pub fresh-formed : (R : Rules) (t : ℕ) → t ≤ 1 → WellFormed R (fresh t)
 unfolding fresh isOpen

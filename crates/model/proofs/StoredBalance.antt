@@ -53,7 +53,7 @@ module _ (R : Rules) (ok : RulesLaws R) (l : Ledger) (w : WellFormed R l) where
   standing x o = λ i. record { bill = x .bill; amount = o .part i }
 
   -- the ledger and the sheet of its facts
-  stored : Related R l (sheetOf l)
+  pub stored : Related R l (sheetOf l)
   unfolding sheetOf
   stored = record {
     territory = refl;

@@ -14,6 +14,7 @@ use Rattle.model.specs.PresentRules.{presentRules}
 use Rattle.model.specs.Ledger.{Ledger, withRows, step, answer}
 use Rattle.model.specs.History.{replies, stateAfter, ledgerMachine}
 use Rattle.model.specs.WellFormed.{WellFormed}
+use Rattle.model.specs.Balance.{BalancedIn, sheetOf}
 
 -- the row of a contract's bill for April to June 2023, without shares
 abbrev pub quarterRow : (contract kwh reference supply amount : ℕ) → Row
@@ -27,6 +28,10 @@ openings = (Call.Open 5 1 1 0 0 with []) ∷ (Call.Open 6 0 3 0 0 with []) ∷ [
 -- a Northern Ireland ledger with a quarter of each: 3,000 kWh × 10 × (11,050 − 10,700) and 2,000 kWh × 10 × (32,000 − 30,200) ticks
 unfoldable pub storedQuarters : Ledger
 storedQuarters = withRows (stateAfter (ledgerMachine presentRules) 1 openings) (quarterRow 5 3000 11050 20000 10500000 ∷ quarterRow 6 2000 32000 60000 36000000 ∷ [])
+
+-- what was answered when they were billed: R, rate and amount of each
+abbrev pub earlierAnswers : List Answer
+earlierAnswers = Billed 11050 3500 10500000 ∷ Billed 32000 18000 36000000 ∷ []
 
 -- the gas prices of April, May and June 2023 are 11,050, 10,900 and 12,000 mils
 unfoldable pub quarterBook : List ℕ
@@ -67,4 +72,6 @@ quarterAnswers =
 
 pub record QuarterExample : Type 0 where
   pub well-formed : WellFormed presentRules storedQuarters
+  -- it balances, so that it goes on balancing whatever calls follow
+  pub balanced : BalancedIn presentRules (ledgerMachine presentRules) storedQuarters (sheetOf storedQuarters) earlierAnswers
   pub answers : replies (step presentRules) (answer presentRules) storedQuarters quarterCalls ≡ quarterAnswers
