@@ -17,7 +17,7 @@ use Rattle.ledger.specs.Answered.{viewOf}
 use Rattle.bill_refusals.specs.declared.Requested.{Requested}
 use Rattle.bill_refusals.specs.declared.Placed.{Placed}
 
--- refusals 3 to 8 and 14, or the bill and its contract
+-- the first test of the request that fits, or the bill and its contract
 unfoldable pub requestedOf : View → Request → (book : List ℕ) → Requested
 requestedOf v q book =
     let number = firstOf (requestTests v q book) in

@@ -33,7 +33,7 @@ pub enum Placed {
     At(usize),
 }
 
-// Refusals 3 to 14 in checking order, or the bill, with R from the book.
+// The first test of the book and of the numbers given that fits, or the bill, with R from the book.
 pub fn requested_bill(b: &[u8], book: &[u32], request: Request) -> Requested
     requires { ⌜ Formed (now b) ⌝ }
     ensures { λ r. ⌜ r ≡ requestedOf (viewOf (now (b .entry))) request (now (book .entry)) ⌝ }

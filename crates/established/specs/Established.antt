@@ -10,6 +10,7 @@ use Rattle.model.specs.BoundaryExamples.{AtTheBoundaries}
 use Rattle.model.specs.RangeExamples.{RangesKept}
 use Rattle.model.specs.LandlordExample.{LandlordExample}
 use Rattle.model.specs.PriceOfEveryDay.{PriceOfEveryDay}
+use Rattle.model.specs.RowsAcrossMonths.{RowsAcrossMonthsStand}
 use Rattle.model.specs.QuarterExample.{QuarterExample}
 use Rattle.model.specs.Postings.{FloorLeavesRest}
 use Rattle.layout.specs.Theorems.{PackedSize, FreshLedger, RoundTrips, ClaimsKept, DemandThree, StoredLedgersBalance, PackedHistoriesHoldTheirFacts, PackedAnswersFromTheSheet, PackedSameAsPostings, NumberTwoFirst, NumberTwoMeetsNoCall}
@@ -26,6 +27,7 @@ pub record Established : Type 0 where
   -- demand 1: the first refusal that fits
   pub number-two-first : NumberTwoFirst
   pub at-the-boundaries : AtTheBoundaries
+  pub rows-across-months-stand : RowsAcrossMonthsStand
   pub start-tests : StartTests
   pub table-of-dates : TableOfDates
   pub day-and-date-inverse : DayAndDateInverse

@@ -43,8 +43,8 @@ pub record DemandThree : Type 0 where
   pub balances : EveryHistoryBalances rules machine
   pub last-claim : EveryAcceptedClaimLeavesRest rules machine
 
--- demand 3, from any well-formed ledger on that balances with the answers to its earlier calls: also where its rows were accepted by earlier
--- rules, as rows across months before number 15 came
+-- demand 3 from a stored ledger on, whose own rows begin the sheet: a well-formed one that balances with the answers to its earlier calls goes
+-- on balancing, also where the rules in force would turn such calls down, as bills across months
 abbrev pub StoredLedgersBalance : Type 0
 StoredLedgersBalance = StoredBalanceGoesOn rules machine Formed
 

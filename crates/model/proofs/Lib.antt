@@ -25,6 +25,7 @@ pub mod Postings
 pub mod Computed
 pub mod Run
 pub mod PriceOfEveryDay
+pub mod RowsAcrossMonths
 pub mod QuarterExample
 pub mod BookEntries
 pub mod BoundaryExamples

@@ -3,7 +3,7 @@ use mathlib.Core.Path.{_≡_, refl, sym, ap}
 use mathlib.Core.Bool.{false, not}
 use mathlib.Core.List.{List}
 use mathlib.Core.Logic.{_↔_}
-use Prim.Native.Nat.{ℕ, _≤_}
+use Prim.Native.Nat.{ℕ, _+_, _*_, _≤_}
 use native.Mathlib.Omega.{arith}
 use lib.Dec.{eqb}
 use lib.ListN.{getD}
@@ -14,7 +14,8 @@ use Rattle.rates.specs.declared.Fuel.{Fuel}
 use Rattle.rates.specs.declared.Kind.{Kind}
 use Rattle.rates.specs.declared.Kind.the-variants.{Fixed, Variable, Flexible, Index}
 use Rattle.model.specs.Contracts.{contractAt}
-use Rattle.model.specs.Book.{bookIndex, referenceOf, reference}
+use Rattle.model.specs.Codes.{fuelCode}
+use Rattle.model.specs.Book.{monthCount, firstVariableEntry, firstIndexEntry, bookIndex, referenceOf, reference}
 use Rattle.model.specs.declared.Call.{Call}
 use Rattle.model.specs.declared.Request.{Request}
 use Rattle.model.specs.Calls.{View, requestedBill, _with_}
@@ -28,16 +29,19 @@ module _ (first last : ℕ) (spans : badSpan first last ≡ false) where
   one-month : not (eqb (schemeMonth first) (schemeMonth last)) ≡ false → (day : ℕ) → first ≤ day → day ≤ last → schemeMonth day ≡ schemeMonth first
   one-month e day h i = month-between first day last h i (omega (arith, span-days first last spans)) (eq-yes _ _ (not-no _ e))
 
-  -- and if the last day's is the first day's, no two months are touched
-  no-two-months : schemeMonth last ≡ schemeMonth first → not (eqb (schemeMonth first) (schemeMonth last)) ≡ false
-  no-two-months e = rw (yes-eq _ _ (sym e))
+  -- so the entries of monthly prices, from their first on, are one just where the span touches no two months
+  monthly : (entry : ℕ) → (not (eqb (schemeMonth first) (schemeMonth last)) ≡ false) ↔ ((day : ℕ) → first ≤ day → day ≤ last → entry + schemeMonth day ≡ entry + schemeMonth first)
+  monthly entry = (
+    λ e day h i. omega (arith, one-month e day h i),
+    λ f. let e : schemeMonth first ≡ schemeMonth last = omega (arith, f last (span-days first last spans .0) (omega arith)) in rw (yes-eq _ _ e),
+  )
 
   one-entry : (fuel : Fuel) (kind : Kind) → (badMonths kind first last ≡ false) ↔ ((day : ℕ) → first ≤ day → day ≤ last → bookIndex fuel kind day ≡ bookIndex fuel kind first)
   unfolding badMonths
   one-entry fuel (Fixed fix entry) = (λ e day h i. refl, λ f. refl)
-  one-entry fuel Variable = (λ e day h i. omega (arith, one-month e day h i), λ f. no-two-months (omega (arith, f last (span-days first last spans .0) (omega arith))))
+  one-entry fuel Variable = monthly (firstVariableEntry + fuelCode fuel * monthCount)
   one-entry fuel Flexible = (λ e day h i. refl, λ f. refl)
-  one-entry fuel Index = (λ e day h i. omega (arith, one-month e day h i), λ f. no-two-months (omega (arith, f last (span-days first last spans .0) (omega arith))))
+  one-entry fuel Index = monthly firstIndexEntry
 
 -- R is read from the first day's entry, which is that of each day
 priced-by-day : (v : View) (q : Request) (book : List ℕ) → badSpan (q .first) (q .last) ≡ false → badMonths (contractAt (v .contracts) (q .contract) .kind) (q .first) (q .last) ≡ false

@@ -1,11 +1,11 @@
--- What an accepted call says of each of its tests, looked up by the paper's number. Assumes nothing.
+-- What an accepted call, and one that is turned down, says of its tests, looked up by the paper's number. Assumes nothing.
 use mathlib.Core.Path.{_≡_, refl}
-use mathlib.Core.Bool.{Bool, true, false, cond, _&&_}
+use mathlib.Core.Bool.{Bool, true, false, cond, _&&_, _||_}
 use mathlib.Core.List.{List, [], _∷_, _++_}
-use Prim.Native.Nat.{ℕ, _≤_}
+use Prim.Native.Nat.{ℕ, suc, _≤_}
 use native.Mathlib.Omega.{arith}
 use lib.Dec.{T, leb, eqb}
-use Rattle.basics.proofs.Tests.{T-yes, yes-T, and-left, and-right, le-yes}
+use Rattle.basics.proofs.Tests.{T-yes, yes-T, and-left, and-right, le-yes, eq-no}
 use Rattle.model.specs.Calls.{Test, firstOf}
 
 -- whether the test of that number fits
@@ -27,6 +27,22 @@ clear (x ∷ ts) h e n =
     go true m l rest f c = let z : ⊥ = omega arith in absurd z
     go false m l rest f true = refl
     go false m l rest f false = rest f
+
+-- whether a test of that number fits, which one does where it turns the call down
+abbrev pub fitsAny : List Test → ℕ → Bool
+fitsAny [] n = false
+fitsAny (x ∷ ts) n = cond (eqb (x .number) n) (x .fits || fitsAny ts n) (fitsAny ts n)
+
+pub fits-first : (ts : List Test) (n : ℕ) → firstOf ts ≡ suc n → fitsAny ts (suc n) ≡ true
+fits-first [] n e = let z : ⊥ = omega arith in absurd z
+fits-first (x ∷ ts) n e = go (x .fits) (eqb (x .number) (suc n)) refl (fits-first ts n) e
+  where
+    go : (f same : Bool) → eqb (x .number) (suc n) ≡ same → (firstOf ts ≡ suc n → fitsAny ts (suc n) ≡ true) → cond f (x .number) (firstOf ts) ≡ suc n
+        → cond same (f || fitsAny ts (suc n)) (fitsAny ts (suc n)) ≡ true
+    go true true s rest h = refl
+    go true false s rest h = absurd (eq-no (x .number) (suc n) s h)
+    go false true s rest h = rest h
+    go false false s rest h = rest h
 
 -- two lists, one after the other: the first turns the call down, or the second decides
 pub refused-first : (xs ys : List Test) (n : ℕ) → n ≡ firstOf xs → (n ≡ 0 → ⊥) → n ≡ firstOf (xs ++ ys)

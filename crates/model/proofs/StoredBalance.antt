@@ -11,19 +11,17 @@ use Rattle.basics.specs.Integers.{sumℤ}
 use Rattle.basics.proofs.Tests.{either}
 use Rattle.basics.proofs.Lists.{all-map, all-over, total-all, total-map}
 use Rattle.basics.proofs.Integers.{reset}
-use Rattle.rates.specs.declared.Bill.{Bill}
 use Rattle.model.specs.declared.Row.{Row}
 use Rattle.model.specs.declared.Answer.{Answer}
 use Rattle.model.specs.declared.Answer.the-variants.{Claimed, Totalled}
-use Rattle.model.specs.declared.Call.{Call}
-use Rattle.model.specs.Calls.{CallWithBook, named, customerAmount, claimPence, _with_}
+use Rattle.model.specs.Calls.{CallWithBook, named, claimPence}
 use Rattle.model.specs.Rules.{Rules, standingRow}
 use Rattle.model.specs.Ledger.{Ledger, step, answer, due}
 use Rattle.model.specs.Sheet as Sheet
 use Rattle.model.specs.WellFormed.{RowOk, before, Apart, WellFormed}
 use Rattle.model.specs.History.{run, replies, ledgerMachine}
-use Rattle.model.specs.Balance.{Balanced, BalancedIn, sheetOf, StoredBalanceGoesOn}
-use Rattle.model.proofs.Relation.{BillOk, Related, dues}
+use Rattle.model.specs.Balance.{BalancedIn, sheetOf, StoredBalanceGoesOn}
+use Rattle.model.proofs.Relation.{Related, dues}
 use Rattle.model.proofs.KeepsRelation.{named-contract, named-first}
 use Rattle.model.proofs.RowOrder.{Span}
 use Rattle.model.proofs.RowBounds.{row-span}

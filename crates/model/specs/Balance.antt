@@ -45,7 +45,7 @@ EveryHistoryBalances R m = (territory : ℕ) → territory ≤ 1 → (h : List C
 unfoldable pub sheetOf : Ledger → Sheet
 sheetOf l = record { territory = l .territory; contracts = l .contracts; bills = map (λ x. x .bill) (l .rows); claims = l .claims }
 
--- from any good state that balances with the answers to its earlier calls, by whatever rules those were accepted: every list of calls
+-- from any good state that balances, on the sheet of its own facts, with the answers to its earlier calls: every list of calls
 abbrev pub StoredBalanceGoesOn : Rules → (m : Machine) → (good : m .State → Type 0) → Type 0
 StoredBalanceGoesOn R m good = (s : m .State) → good s → (earlier : List Answer) → BalancedIn R m s (sheetOf (m .facts s)) earlier → (h : List CallWithBook) →
     BalancedIn R m (run (m .step) s h) (run (step R) (sheetOf (m .facts s)) h) (earlier ++ replies (m .step) (m .answer) s h)

@@ -1,4 +1,5 @@
--- Document 01, "Contracts and the price book": the numbers that stand for a fuel, a kind with its days and a certificate. Assumes nothing.
+-- Document 01, "Contracts and the price book": the numbers that stand for a fuel, a kind with its days and a certificate; the kinds whose R is
+-- the WAP, and those whose prices are monthly. Assumes nothing.
 use mathlib.Core.Bool.{Bool, true, false, cond}
 use Prim.Native.Nat.{ℕ}
 use lib.Dec.{eqb}

@@ -20,6 +20,7 @@ pub mod Postings
 pub mod Run
 pub mod LandlordExample
 pub mod PriceOfEveryDay
+pub mod RowsAcrossMonths
 pub mod QuarterExample
 pub mod BookEntries
 pub mod BoundaryExamples

@@ -49,7 +49,7 @@ badEffective class day = cond (eqb class 0) (not (eqb day 0)) (ltb lastDay day |
 unfoldable pub badSpan : (first last : ℕ) → Bool
 badSpan first last = not (leb firstSchemeDay first && (leb first last && leb last lastDay))
 
--- 15: a variable or index span touches two months: it doesn't start and end in one
+-- 15: a variable or index span touches two months: its first and last day, which are the scheme's, aren't in one
 unfoldable pub badMonths : Kind → (first last : ℕ) → Bool
 badMonths kind first last = isMonthly kind && not (eqb (schemeMonth first) (schemeMonth last))
 
@@ -69,7 +69,7 @@ noPrice kind reference = not (isFlexible kind) && eqb reference 0
 unfoldable pub openTests : View → (contract : ℕ) → List Test
 openTests v c = (4 if badNumber c) ∷ (5 if not (isOpen (v .contracts) c)) ∷ []
 
--- 3 to 14 in checking order, of the numbers that bill and rebill give
+-- of bill and rebill: the tests of the book and of the numbers given
 unfoldable pub requestTests : View → Request → (book : List ℕ) → List Test
 requestTests v q book =
     (3 if badBook book)
@@ -80,7 +80,7 @@ requestTests v q book =
     ∷ (14 if badShares (q .kwh) (q .etii) (q .qhs))
     ∷ [])
 
--- 9 to 12, of the bill that a request makes: its row is new (bill), or takes the place of one (rebill)
+-- and then those of the bill that a request makes: its row is new (bill), or takes the place of one (rebill)
 unfoldable pub newRowTests : View → Bill → List Test
 newRowTests v b =
     (10 if ltb 0 (v .held (sharing (b .contract) (b .first) (b .last))))

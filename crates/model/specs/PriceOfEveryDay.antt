@@ -20,13 +20,14 @@ abbrev pub PriceOn : View → Request → (book : List ℕ) → (day : ℕ) → 
 PriceOn v q book day = requestedBill (v .contracts) q book .reference ≡ reference (contractAt (v .contracts) (q .contract)) day (q .wap) book
 
 -- if the call of a request isn't turned down, R is the price of each day of the span
-abbrev pub PricedByDay : (Request → Call) → Type 0
-PricedByDay call =
+abbrev pub PricedOnEachDay : (Request → Call) → Type 0
+PricedOnEachDay call =
     (v : View) (q : Request) (book : List ℕ) → refusal presentRules v (call q with book) ≡ 0 → (day : ℕ) → q .first ≤ day → day ≤ q .last → PriceOn v q book day
 
 pub record PriceOfEveryDay : Type 0 where
-  -- a span of the scheme passes number 15 just where each of its days has its price in the first day's entry of the book
+  -- a span of the scheme passes number 15 just where each of its days has its price in the first day's entry of the book (a flexible
+  -- contract, which reads none, has the same number for all days)
   pub one-entry : (fuel : Fuel) (kind : Kind) (first last : ℕ) → badSpan first last ≡ false
       → (badMonths kind first last ≡ false) ↔ ((day : ℕ) → first ≤ day → day ≤ last → bookIndex fuel kind day ≡ bookIndex fuel kind first)
-  pub bills : PricedByDay Call.Bill
-  pub rebills : PricedByDay Call.Rebill
+  pub bills : PricedOnEachDay Call.Bill
+  pub rebills : PricedOnEachDay Call.Rebill

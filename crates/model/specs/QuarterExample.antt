@@ -29,7 +29,7 @@ openings = (Call.Open 5 1 1 0 0 with []) ∷ (Call.Open 6 0 3 0 0 with []) ∷ [
 unfoldable pub storedQuarters : Ledger
 storedQuarters = withRows (stateAfter (ledgerMachine presentRules) 1 openings) (quarterRow 5 3000 11050 20000 10500000 ∷ quarterRow 6 2000 32000 60000 36000000 ∷ [])
 
--- what was answered when they were billed: R, rate and amount of each
+-- what was answered to the two bills: R, rate and amount (the two contracts' openings answered no numbers)
 abbrev pub earlierAnswers : List Answer
 earlierAnswers = Billed 11050 3500 10500000 ∷ Billed 32000 18000 36000000 ∷ []
 

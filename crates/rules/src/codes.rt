@@ -1,4 +1,4 @@
-// The numbers that stand for a fuel, a kind with its days and a certificate.
+// The numbers that stand for a fuel, a kind with its days and a certificate; flexible kinds and monthly ones.
 use rates::Certificate;
 use rates::Fuel;
 use rates::Kind;

@@ -92,7 +92,7 @@ pub fn bad_span(first: u32, last: u32) -> bool
     false
 }
 
-// A variable or index span touches two months.
+// A variable or index span of the scheme touches two months.
 pub fn bad_months(kind: Kind, first: u32, last: u32) -> bool
     ensures { λ r. ⌜ r ≡ badMonths kind first last ⌝ }
 {

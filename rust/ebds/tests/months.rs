@@ -132,6 +132,16 @@ fn number_15_comes_after_7_and_before_8() -> Result<(), Refusal> {
     Ok(())
 }
 
+#[test]
+fn a_wrong_book_comes_before_15() -> Result<(), Refusal> {
+    let ledger = ledger_with(Fuel::Gas, Kind::Variable)?;
+    for book in [&BOOK[1..], &[1_000_000; BOOK_LENGTH]] {
+        let refused = taken(&ledger, book, span(515, 516));
+        assert_eq!(refused, Err(Refusal::BadBook));
+    }
+    Ok(())
+}
+
 /// 9, 10 and 11 fit too: no row begins on that day, April's shares one, and no price is published.
 #[test]
 fn number_15_comes_before_the_numbers_of_rows_and_prices() -> Result<(), Refusal> {

@@ -41,8 +41,7 @@ pub struct BillNumbers {
 }
 
 impl BillNumbers {
-    /// The contract of a bill or rebill that none of the numbers 3 to 14 in checking order turns
-    /// down.
+    /// The contract of a bill or rebill that no test of the book or of its numbers turns down.
     pub fn contract<'a>(&self, checked: &'a Checked, book: &[u32]) -> Result<&'a Contract, u32> {
         if !book_ok(book) {
             return Err(BAD_BOOK);

@@ -1,4 +1,4 @@
--- `requested_bill` gives the first of refusals 3 to 14, in checking order, that fits, or the bill.
+-- `requested_bill` gives the first test of the request that fits, or the bill.
 use native.Mathlib.Omega.{arith}
 use Rattle.model.specs.PresentRules.{requestTests}
 use Rattle.layout.proofs.Present.{formed-length}
