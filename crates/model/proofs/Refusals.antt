@@ -2,6 +2,7 @@
 use mathlib.Core.Path.{_≡_, refl}
 use mathlib.Core.Bool.{Bool, true, false, cond, _&&_, _||_}
 use mathlib.Core.List.{List, [], _∷_, _++_}
+use mathlib.Core.Logic.{_⊎_, inl, inr}
 use Prim.Native.Nat.{ℕ, suc, _≤_}
 use native.Mathlib.Omega.{arith}
 use lib.Dec.{T, leb, eqb}
@@ -45,6 +46,15 @@ fits-first (x ∷ ts) n e = go (x .fits) (eqb (x .number) (suc n)) refl (fits-fi
     go false false s rest h = rest h
 
 -- two lists, one after the other: the first turns the call down, or the second decides
+pub first-or-second : (xs ys : List Test) (n : ℕ) → firstOf (xs ++ ys) ≡ suc n → (firstOf xs ≡ suc n) ⊎ ((firstOf xs ≡ 0) × (firstOf ys ≡ suc n))
+first-or-second [] ys n e = inr (refl, e)
+first-or-second (x ∷ xs) ys n e = go (x .fits) (first-or-second xs ys n) e
+  where
+    go : (f : Bool) → (firstOf (xs ++ ys) ≡ suc n → (firstOf xs ≡ suc n) ⊎ ((firstOf xs ≡ 0) × (firstOf ys ≡ suc n))) → cond f (x .number) (firstOf (xs ++ ys)) ≡ suc n
+        → (cond f (x .number) (firstOf xs) ≡ suc n) ⊎ ((cond f (x .number) (firstOf xs) ≡ 0) × (firstOf ys ≡ suc n))
+    go true rest h = inl h
+    go false rest h = rest h
+
 pub refused-first : (xs ys : List Test) (n : ℕ) → n ≡ firstOf xs → (n ≡ 0 → ⊥) → n ≡ firstOf (xs ++ ys)
 refused-first [] ys n e some = absurd (some e)
 refused-first (x ∷ xs) ys n e some = go (x .fits) (λ h. refused-first xs ys n h some) e
