@@ -10,7 +10,8 @@ use Rattle.model.proofs.BoundaryExamples.{at-the-boundaries}
 use Rattle.model.proofs.RangeExamples.{ranges-kept}
 use Rattle.model.proofs.Run.{landlord-example}
 use Rattle.model.proofs.PriceOfEveryDay.{price-of-every-day}
-use Rattle.model.proofs.RowsAcrossMonths.{rows-across-months-stand}
+use Rattle.model.proofs.AcceptedCalls.{accepted-where-none-fits}
+use Rattle.model.proofs.NumberFifteen.{number-fifteen}
 use Rattle.model.proofs.QuarterExample.{quarter-example}
 use Rattle.model.proofs.Postings.{floor-leaves-rest}
 use Rattle.layout.proofs.Theorems.{packed-size, fresh-ledger, round-trips, claims-kept, demand-three, stored-ledgers-balance, packed-histories-hold-their-facts, packed-answers-from-the-sheet, packed-same-as-postings, number-two-first, number-two-meets-no-call}
@@ -28,7 +29,8 @@ pub all-established : Established
 all-established = record {
   number-two-first = number-two-first;
   at-the-boundaries = at-the-boundaries;
-  rows-across-months-stand = rows-across-months-stand;
+  accepted-where-none-fits = accepted-where-none-fits;
+  number-fifteen = number-fifteen;
   start-tests = start-tests;
   table-of-dates = table-of-dates;
   day-and-date-inverse = day-and-date-inverse;

@@ -10,7 +10,8 @@ use Rattle.model.specs.BoundaryExamples.{AtTheBoundaries}
 use Rattle.model.specs.RangeExamples.{RangesKept}
 use Rattle.model.specs.LandlordExample.{LandlordExample}
 use Rattle.model.specs.PriceOfEveryDay.{PriceOfEveryDay}
-use Rattle.model.specs.RowsAcrossMonths.{RowsAcrossMonthsStand}
+use Rattle.model.specs.AcceptedCalls.{AcceptedWhereNoneFits}
+use Rattle.model.specs.NumberFifteen.{NumberFifteen}
 use Rattle.model.specs.QuarterExample.{QuarterExample}
 use Rattle.model.specs.Postings.{FloorLeavesRest}
 use Rattle.layout.specs.Theorems.{PackedSize, FreshLedger, RoundTrips, ClaimsKept, DemandThree, StoredLedgersBalance, PackedHistoriesHoldTheirFacts, PackedAnswersFromTheSheet, PackedSameAsPostings, NumberTwoFirst, NumberTwoMeetsNoCall}
@@ -27,7 +28,8 @@ pub record Established : Type 0 where
   -- demand 1: the first refusal that fits
   pub number-two-first : NumberTwoFirst
   pub at-the-boundaries : AtTheBoundaries
-  pub rows-across-months-stand : RowsAcrossMonthsStand
+  pub accepted-where-none-fits : AcceptedWhereNoneFits
+  pub number-fifteen : NumberFifteen
   pub start-tests : StartTests
   pub table-of-dates : TableOfDates
   pub day-and-date-inverse : DayAndDateInverse

@@ -2,8 +2,8 @@
 use mathlib.Core.Path.{refl}
 use Rattle.calendar.specs.Days.{dates, dateOf, schemeMonth}
 use Rattle.model.specs.Book.{reference}
-use Rattle.model.specs.BookEntries.{bookEntries, pricedAt, found, EntriesFound}
+use Rattle.model.specs.BookEntries.{bookEntries, monthEntries, pricedAt, found, EntriesFound}
 
 pub entries-found : EntriesFound
-unfolding bookEntries pricedAt found reference schemeMonth dateOf dates
-entries-found = refl
+unfolding bookEntries monthEntries pricedAt found reference schemeMonth dateOf dates
+entries-found = record { kinds = refl; months = refl }

@@ -25,7 +25,8 @@ pub mod Postings
 pub mod Computed
 pub mod Run
 pub mod PriceOfEveryDay
-pub mod RowsAcrossMonths
+pub mod AcceptedCalls
+pub mod NumberFifteen
 pub mod QuarterExample
 pub mod BookEntries
 pub mod BoundaryExamples

@@ -1,4 +1,5 @@
--- Document 01, "Contracts and the price book": the first and the last entry of each fuel and kind, where its price is found. Assumes nothing.
+-- Document 01, "Contracts and the price book": the first and the last entry of each fuel and kind, and each month's, where its price is found.
+-- Assumes nothing.
 use mathlib.Core.Path.{_≡_}
 use mathlib.Core.List.{List, [], _∷_, _++_, map}
 use Prim.Native.Nat.{ℕ, _-_}
@@ -36,6 +37,26 @@ bookEntries =
     ∷ bookEntry Electricity Index 851 1739
     ∷ []
 
+-- a month of the scheme: the entry of bills of variable gas that begin on its first and on its last day
+abbrev pub monthEntry : (first last entry : ℕ) → List BookEntry
+monthEntry first last entry = bookEntry Gas Variable first entry ∷ bookEntry Gas Variable last entry ∷ []
+
+-- April 2023 to March 2024
+unfoldable pub monthEntries : List BookEntry
+monthEntries =
+    monthEntry 486 515 1716
+    ++ monthEntry 516 546 1717
+    ++ monthEntry 547 576 1718
+    ++ monthEntry 577 607 1719
+    ++ monthEntry 608 638 1720
+    ++ monthEntry 639 668 1721
+    ++ monthEntry 669 699 1722
+    ++ monthEntry 700 729 1723
+    ++ monthEntry 730 760 1724
+    ++ monthEntry 761 791 1725
+    ++ monthEntry 792 820 1726
+    ++ monthEntry 821 851 1727
+
 -- a book of 1,740 entries in which this one alone has a price, of 1 mil
 unfoldable pub pricedAt : (entry : ℕ) → List ℕ
 pricedAt entry = replicate entry 0 ++ (1 ∷ replicate (1739 - entry) 0)
@@ -45,5 +66,6 @@ unfoldable pub found : BookEntry → ℕ
 found e = reference (record { fuel = e .fuel; kind = e .kind; certificate = None }) (e .first) 0 (pricedAt (e .entry))
 
 -- each is found
-abbrev pub EntriesFound : Type 0
-EntriesFound = map found bookEntries ≡ map (λ _. 1) bookEntries
+pub record EntriesFound : Type 0 where
+  pub kinds : map found bookEntries ≡ map (λ _. 1) bookEntries
+  pub months : map found monthEntries ≡ map (λ _. 1) monthEntries

@@ -215,6 +215,11 @@ atNumber13 = (Call.Claim with [] on sheetOfClaims 1000 gives 13) ∷ (Call.Claim
 unfoldable pub inCheckingOrder : List Boundary
 inCheckingOrder =
     (Call.Bill (requestOf 64 486 499 1 1 1 0 0) with (replicate 1739 0) on britain gives 3)
+    ∷ (Call.Bill (requestOf 64 485 499 1 1 1 0 0) with zeroBook on britain gives 4)
+    ∷ (Call.Bill (requestOf 2 485 499 1 1 1 0 0) with zeroBook on britain gives 5)
+    ∷ (Call.Rebill (requestOf 64 485 499 1 1 1 0 0) with (replicate 1739 0) on britain gives 3)
+    ∷ (Call.Rebill (requestOf 64 485 499 1 1 1 0 0) with zeroBook on britain gives 4)
+    ∷ (Call.Rebill (requestOf 2 485 499 1 1 1 0 0) with zeroBook on britain gives 5)
     ∷ (Call.Open 64 2 0 0 0 with [] on britain gives 4)
     ∷ (Call.Open 1 2 0 0 0 with [] on britain gives 5)
     ∷ (Call.Open 2 2 0 852 0 with [] on britain gives 6)
@@ -230,9 +235,12 @@ inCheckingOrder =
     ∷ (Call.Bill (requestOf 1 486 516 100000001 1 1 4294967295 0) with zeroBook on sheetOfBills 1024 gives 15)
     ∷ (Call.Rebill (requestOf 1 487 516 100000001 1 1 4294967295 0) with zeroBook on sheetOfBills 1 gives 15)
     ∷ (Call.Rebill (requestOf 0 501 501 100000001 1 1 4294967295 0) with zeroBook on britain gives 8)
+    ∷ (Call.Bill (requestOf 0 486 499 100000001 1 1 4294967295 0) with zeroBook on britain gives 8)
     ∷ (Call.Rebill (requestOf 0 501 501 1 1 1 1 1) with zeroBook on britain gives 14)
     ∷ (Call.Bill (requestOf 1 486 486 1 1 0 2 0) with zeroBook on sheetOfBills 1024 gives 14)
     ∷ (Call.Rebill (requestOf 0 501 501 1 1 1 0 0) with zeroBook on britain gives 9)
+    ∷ (Call.Rebill (requestOf 1 487 487 1 1 0 0 0) with zeroBook on sheetOfBills 1 gives 9)
+    ∷ (Call.Rebill (requestOf 1 486 488 1 1 0 0 0) with zeroBook on sheetWith 0 (standing 1 486 486 ∷ standing 1 488 488 ∷ []) 0 gives 10)
     ∷ (Call.Bill (requestOf 1 486 486 1 1 0 0 0) with zeroBook on sheetOfBills 1 gives 10)
     ∷ (Call.Bill (requestOf 1 487 487 1 1 0 0 0) with zeroBook on sheetOfBills 1024 gives 11)
     ∷ []

@@ -20,7 +20,8 @@ pub mod Postings
 pub mod Run
 pub mod LandlordExample
 pub mod PriceOfEveryDay
-pub mod RowsAcrossMonths
+pub mod AcceptedCalls
+pub mod NumberFifteen
 pub mod QuarterExample
 pub mod BookEntries
 pub mod BoundaryExamples

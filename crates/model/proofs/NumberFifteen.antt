@@ -1,20 +1,18 @@
--- Number 15 by the span given; certificates, cancellations, reports and claims read no row's span. Assumes nothing.
+-- Number 15 turns down a bill or rebill whose span touches two months, where no earlier test fits, and no other call. Assumes nothing.
 use mathlib.Core.Path.{_≡_, refl, sym, _∙_}
 use mathlib.Core.Bool.{true, false, false≢true, or-false}
 use mathlib.Core.List.{List, [], _∷_, _++_}
-use mathlib.Core.Logic.{_↔_, ⊎-elim}
+use mathlib.Core.Logic.{⊎-elim}
 use Prim.Native.Nat.{ℕ}
 use lib.ListN.{drop}
-use Rattle.limits.specs.Limits.{mostClaims}
-use Rattle.basics.proofs.Tests.{not-no, yes-lt}
-use borrow.Author.Tests.{lt-leb}
+use Rattle.basics.proofs.Tests.{not-no}
 use Rattle.model.specs.Contracts.{contractAt}
 use Rattle.model.specs.declared.Call.{Call}
 use Rattle.model.specs.declared.Request.{Request}
-use Rattle.model.specs.Calls.{CallWithBook, View, Test, _if_, firstOf, named, _with_}
+use Rattle.model.specs.Calls.{CallWithBook, View, Test, _if_, firstOf, _with_}
 use Rattle.model.specs.Rules.{refusal}
 use Rattle.model.specs.PresentRules.{badBook, badSpan, badMonths, openTests, presentRules, tests}
-use Rattle.model.specs.RowsAcrossMonths.{TwoMonthsGiven, GivesTwoMonths, RowsAcrossMonthsStand}
+use Rattle.model.specs.NumberFifteen.{TwoMonthsGiven, GivesTwoMonths, NumberFifteen}
 use Rattle.model.proofs.Refusals.{fitsAny, fits-first, first-or-second, clear}
 
 module _ (v : View) (q : Request) (book : List ℕ) where
@@ -33,7 +31,7 @@ module _ (v : View) (q : Request) (book : List ℕ) where
       found f =
           let p = clear earlier tt (f .0) in
           let m = fits-first (from-15 later) 14 (f .1) in
-          record { prices = p 3; number = p 4; opened = not-no _ (p 5); days = p 7; months = sym (or-false _) ∙ (rw none at m) }
+          record { right = record { prices = p 3; number = p 4; opened = not-no _ (p 5); days = p 7 }; months = sym (or-false _) ∙ (rw none at m) }
 
 turned-down : (v : View) (c : CallWithBook) → refusal presentRules v c ≡ 15 → GivesTwoMonths v c
 unfolding refusal tests
@@ -49,20 +47,13 @@ turned-down v (Call.Total with book) e = false≢true (fits-first (tests v (Call
 by-15 : (v : View) (c : CallWithBook) → GivesTwoMonths v c → refusal presentRules v c ≡ 15
 unfolding refusal tests
 by-15 v (Call.Open c fuel kind fix entry with book) t = absurd t
-by-15 v (Call.Bill q with book) t = rw (t .prices, t .number, t .opened, t .days, t .months)
-by-15 v (Call.Rebill q with book) t = rw (t .prices, t .number, t .opened, t .days, t .months)
+by-15 v (Call.Bill q with book) t = rw (t .right .prices, t .right .number, t .right .opened, t .right .days, t .months)
+by-15 v (Call.Rebill q with book) t = rw (t .right .prices, t .right .number, t .right .opened, t .right .days, t .months)
 by-15 v (Call.Cert c class effective with book) t = absurd t
 by-15 v (Call.Cancel c first with book) t = absurd t
 by-15 v (Call.Claim with book) t = absurd t
 by-15 v (Call.Report c with book) t = absurd t
 by-15 v (Call.Total with book) t = absurd t
 
-pub rows-across-months-stand : RowsAcrossMonthsStand
-unfolding refusal tests
-rows-across-months-stand = record {
-  certificates = λ v c class effective book number opened good days. rw (number, opened, good, days);
-  cancellations = λ v c first book number opened held. rw (number, opened, yes-lt 0 (v .held (named c first)) held);
-  reports = λ v c book number opened. rw (number, opened);
-  claims = λ v book few. rw (lt-leb mostClaims (v .claims) few);
-  number-15 = λ v c. (turned-down v c, by-15 v c);
-}
+pub number-fifteen : NumberFifteen
+number-fifteen v c = (turned-down v c, by-15 v c)
