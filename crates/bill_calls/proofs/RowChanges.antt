@@ -11,9 +11,9 @@ use Rattle.records.specs.Edits.{insertAt, removeAt, replaceAt, onPart}
 use Rattle.records.specs.OneSlot.{recordBytes}
 use Rattle.records.proofs.Scan.{recordOf}
 use Rattle.rates.specs.declared.Contract.{Contract}
-use Rattle.rates.specs.declared.Bill.{Bill}
-use Rattle.rates.specs.Amounts.{rate, amount, Rateable}
-use Rattle.rates.proofs.WithinCaps.{amount-bits}
+use Rattle.amounts.specs.declared.Bill.{Bill}
+use Rattle.amounts.specs.Amounts.{rate, amount, Rateable}
+use Rattle.amounts.proofs.AmountBounds.{amount-bits}
 use Rattle.model.specs.declared.Row.{Row}
 use Rattle.model.specs.declared.Answer.the-variants.{Billed, Rebilled, Cancelled}
 use Rattle.model.specs.Contracts.{Contracts}

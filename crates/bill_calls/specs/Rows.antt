@@ -6,8 +6,8 @@ use Prim.Native.Nat.{ℕ, _<_}
 use lib.IntN.{subℕ}
 use Rattle.limits.specs.Limits.{rowCount}
 use Rattle.rates.specs.declared.Contract.{Contract}
-use Rattle.rates.specs.declared.Bill.{Bill}
-use Rattle.rates.specs.Amounts.{rate, amount}
+use Rattle.amounts.specs.declared.Bill.{Bill}
+use Rattle.amounts.specs.Amounts.{rate, amount}
 use Rattle.model.specs.declared.Answer.{Answer}
 use Rattle.model.specs.declared.Answer.the-variants.{Billed, Rebilled, Cancelled}
 use Rattle.model.specs.Calls.{named}

@@ -2,10 +2,10 @@
 use ledger::rows::row_at;
 use model::Answer;
 use model::Row;
-use rates::Bill;
+use amounts::Bill;
 use rates::Contract;
-use rates::amounts::amount;
-use rates::amounts::rate;
+use amounts::amount;
+use amounts::rate;
 use signed::difference;
 ghost use Rattle.layout.specs.Present.{facts};
 ghost use Rattle.bill_calls.specs.Rows.{NewRow, RowAgain, RowHeld, Changed, billed, rowAdded, rebilled, rowReplaced, cancelled, rowRemoved};

@@ -8,7 +8,7 @@ use borrow.Author.Tests.{ltb-true, le-leb, lt-leb, le-ltb, lt-ltb}
 use Rattle.limits.specs.Limits.{rowCount}
 use Rattle.basics.proofs.Lists.{count-true}
 use Rattle.rates.specs.declared.Contract.{Contract}
-use Rattle.rates.specs.declared.Bill.{Bill}
+use Rattle.amounts.specs.declared.Bill.{Bill}
 use Rattle.model.specs.declared.Request.{Request}
 use Rattle.model.specs.Contracts.{contractAt}
 use Rattle.model.specs.Calls.{View, firstOf, billUnder, requestedBill}

@@ -5,7 +5,7 @@ use ledger::rows::RowTest;
 use ledger::rows::find_row;
 use limits::ROW_COUNT;
 use model::Request;
-use rates::Bill;
+use amounts::Bill;
 use rates::Contract;
 use rules::book::bad_book;
 use rules::book::bill_under;

@@ -10,7 +10,7 @@ use Rattle.basics.proofs.Tests.{yes-le, no-le}
 use Rattle.fields.specs.Fields.{Fit}
 use Rattle.records.specs.Pack.{pack}
 use Rattle.records.specs.Edits.{replaceAt}
-use Rattle.rates.proofs.WithinCaps.{highestAmount}
+use Rattle.amounts.proofs.AmountBounds.{highestAmount}
 use Rattle.model.specs.declared.Answer.{Answer}
 use Rattle.model.specs.declared.Answer.the-variants.{Refused, Claimed, Totalled}
 use Rattle.model.specs.declared.Call.{Call}

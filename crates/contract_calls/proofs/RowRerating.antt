@@ -10,8 +10,8 @@ use Rattle.records.specs.Edits.{replaceAt}
 use Rattle.records.specs.OneSlot.{recordBytes}
 use Rattle.records.proofs.Replaced.{replaced-same}
 use Rattle.rates.specs.declared.Contract.{Contract}
-use Rattle.rates.specs.Amounts.{amount, Rateable}
-use Rattle.rates.proofs.WithinCaps.{amount-bits}
+use Rattle.amounts.specs.Amounts.{amount, Rateable}
+use Rattle.amounts.proofs.AmountBounds.{amount-bits}
 use Rattle.model.specs.declared.Row.{Row}
 use Rattle.model.specs.Ledger.{withAmount, priced, rerated}
 use Rattle.layout.specs.PresentLayout.{rowRecord}

@@ -16,8 +16,8 @@ use Rattle.records.specs.Edits.{replaceAt}
 use Rattle.records.specs.OneSlot.{recordBytes, IsPacked}
 use Rattle.records.proofs.Replaced.{replaced-rest, replaced-length}
 use Rattle.rates.specs.declared.Contract.{Contract}
-use Rattle.rates.specs.Amounts.{Rateable}
-use Rattle.rates.proofs.WithinCaps.{highestAmount, amount-low}
+use Rattle.amounts.specs.Amounts.{Rateable}
+use Rattle.amounts.proofs.AmountBounds.{highestAmount, amount-low}
 use Rattle.model.specs.declared.Row.{Row}
 use Rattle.model.specs.Contracts.{Contracts}
 use Rattle.model.specs.Ledger.{withRows, rerated}

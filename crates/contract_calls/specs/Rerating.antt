@@ -11,7 +11,7 @@ use Rattle.basics.specs.Lists.{total, count}
 use Rattle.records.specs.Edits.{replaceAt}
 use Rattle.records.specs.OneSlot.{recordBytes, IsPacked}
 use Rattle.rates.specs.declared.Contract.{Contract}
-use Rattle.rates.specs.Amounts.{Rateable}
+use Rattle.amounts.specs.Amounts.{Rateable}
 use Rattle.model.specs.declared.Row.{Row}
 use Rattle.model.specs.declared.Call.{Call}
 use Rattle.model.specs.Calls.{_with_}

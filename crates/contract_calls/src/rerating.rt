@@ -24,7 +24,7 @@ fn rerate_row(b: &mut [u8], i: usize, contract: u32, terms: Contract) -> Rerated
             changed: 0,
         };
     }
-    let amount = rates::amounts::amount(terms, bill);
+    let amount = amounts::amount(terms, bill);
     replace_amount(b, i, amount);
     if amount == row.amount {
         return Rerated {

@@ -4,15 +4,17 @@ use Rattle.calendar.proofs.TableOfDates.{table-of-dates}
 use Rattle.calendar.proofs.DayAndDate.{day-and-date-inverse}
 use Rattle.rates.proofs.TwelveRates.{twelve-rates, baseline-not-given-to-qhs}
 use Rattle.rates.proofs.RateExamples.{caps-attained, discounts-begin, classes-applied}
-use Rattle.rates.proofs.SharesRated.{shares-rated}
+use Rattle.amounts.proofs.AmountLaws.{shares-rated, stretches-rated, without-change-inside, amounts-bounded}
+use Rattle.amounts.proofs.AmountExamples.{amount-examples}
 use Rattle.model.proofs.BookEntries.{entries-found}
 use Rattle.model.proofs.BoundaryExamples.{at-the-boundaries}
 use Rattle.model.proofs.RangeExamples.{ranges-kept}
-use Rattle.model.proofs.Run.{landlord-example}
+use Rattle.model.proofs.Run.{landlord-example, certificate-inside-example}
 use Rattle.model.proofs.PriceOfEveryDay.{price-of-every-day}
 use Rattle.model.proofs.AcceptedCalls.{accepted-where-none-fits}
 use Rattle.model.proofs.NumberFifteen.{number-fifteen}
 use Rattle.model.proofs.QuarterExample.{quarter-example}
+use Rattle.model.proofs.StoredEarlier.{stored-earlier}
 use Rattle.model.proofs.Postings.{floor-leaves-rest}
 use Rattle.layout.proofs.Theorems.{packed-size, fresh-ledger, round-trips, claims-kept, demand-three, stored-ledgers-balance, packed-histories-hold-their-facts, packed-answers-from-the-sheet, packed-same-as-postings, number-two-first, number-two-meets-no-call}
 use Rattle.layout.proofs.LayoutExample.{layout-example}
@@ -40,7 +42,12 @@ all-established = record {
   discounts-begin = discounts-begin;
   classes-applied = classes-applied;
   shares-rated = shares-rated;
+  stretches-rated = stretches-rated;
+  without-change-inside = without-change-inside;
+  amounts-bounded = amounts-bounded;
+  amount-examples = amount-examples;
   landlord-example = landlord-example;
+  certificate-inside-example = certificate-inside-example;
   entries-found = entries-found;
   price-of-every-day = price-of-every-day;
   field-laws = field-laws;
@@ -51,6 +58,7 @@ all-established = record {
   round-trips = round-trips;
   ranges-kept = ranges-kept;
   quarter-example = quarter-example;
+  stored-earlier = stored-earlier;
   claims-kept = claims-kept;
   packed-histories-hold-their-facts = packed-histories-hold-their-facts;
   demand-three = demand-three;

@@ -4,15 +4,18 @@ use Rattle.fields.specs.FieldLaws.{FieldLaws, FieldExamples}
 use Rattle.calendar.specs.TableOfDates.{TableOfDates, DayAndDateInverse}
 use Rattle.rates.specs.TwelveRates.{TwelveRates, BaselineNotGivenToQhs}
 use Rattle.rates.specs.RateExamples.{CapsAttained, DiscountsBegin, ClassesApplied}
-use Rattle.rates.specs.SharesRated.{SharesRated}
+use Rattle.amounts.specs.AmountLaws.{SharesRated, StretchesRated, WithoutChangeInside, AmountsBounded}
+use Rattle.amounts.specs.AmountExamples.{AmountExamples}
 use Rattle.model.specs.BookEntries.{EntriesFound}
 use Rattle.model.specs.BoundaryExamples.{AtTheBoundaries}
 use Rattle.model.specs.RangeExamples.{RangesKept}
 use Rattle.model.specs.LandlordExample.{LandlordExample}
+use Rattle.model.specs.CertificateInsideExample.{CertificateInsideExample}
 use Rattle.model.specs.PriceOfEveryDay.{PriceOfEveryDay}
 use Rattle.model.specs.AcceptedCalls.{AcceptedWhereNoneFits}
 use Rattle.model.specs.NumberFifteen.{NumberFifteen}
 use Rattle.model.specs.QuarterExample.{QuarterExample}
+use Rattle.model.specs.StoredEarlier.{StoredEarlier}
 use Rattle.model.specs.Postings.{FloorLeavesRest}
 use Rattle.layout.specs.Theorems.{PackedSize, FreshLedger, RoundTrips, ClaimsKept, DemandThree, StoredLedgersBalance, PackedHistoriesHoldTheirFacts, PackedAnswersFromTheSheet, PackedSameAsPostings, NumberTwoFirst, NumberTwoMeetsNoCall}
 use Rattle.layout.specs.LayoutExample.{LayoutExample}
@@ -40,7 +43,12 @@ pub record Established : Type 0 where
   pub discounts-begin : DiscountsBegin
   pub classes-applied : ClassesApplied
   pub shares-rated : SharesRated
+  pub stretches-rated : StretchesRated
+  pub without-change-inside : WithoutChangeInside
+  pub amounts-bounded : AmountsBounded
+  pub amount-examples : AmountExamples
   pub landlord-example : LandlordExample
+  pub certificate-inside-example : CertificateInsideExample
   pub entries-found : EntriesFound
   pub price-of-every-day : PriceOfEveryDay
   -- demand 2: the packed ledger, both ways
@@ -52,6 +60,7 @@ pub record Established : Type 0 where
   pub round-trips : RoundTrips
   pub ranges-kept : RangesKept
   pub quarter-example : QuarterExample
+  pub stored-earlier : StoredEarlier
   pub claims-kept : ClaimsKept
   pub packed-histories-hold-their-facts : PackedHistoriesHoldTheirFacts
   -- demand 3: every history balances, and the move from postings

@@ -9,7 +9,7 @@ use Rattle.fields.specs.Fields.{Fit}
 use Rattle.records.specs.Pack.{size}
 use Rattle.records.specs.Slots.{RecordLaws}
 use Rattle.rates.specs.declared.Contract.{Contract}
-use Rattle.rates.proofs.WithinCaps.{amount-bits}
+use Rattle.amounts.proofs.AmountBounds.{amount-bits}
 use Rattle.model.specs.declared.Row.{Row}
 use Rattle.model.specs.Codes.{classCode}
 use Rattle.model.specs.Contracts.{Contracts, contractOf}

@@ -20,7 +20,7 @@ use Rattle.records.specs.Edits.{zeroAt}
 use Rattle.records.proofs.Slots.{length-slots}
 use Rattle.records.proofs.OneSlot.{slots-next, zero-rest}
 use Rattle.records.proofs.Scan.{recordOf, Keyed, bool-same, test, held-passes, scan-exactly, found, found-end, found-free, found-trailing, found-bad, found-good}
-use Rattle.rates.proofs.WithinCaps.{highestAmount}
+use Rattle.amounts.proofs.AmountBounds.{highestAmount}
 use Rattle.model.specs.declared.Row.{Row}
 use Rattle.model.specs.Contracts.{Contracts}
 use Rattle.model.specs.Rules.{Rules}

@@ -11,7 +11,7 @@ use Rattle.records.specs.Slots.{allZero}
 use Rattle.records.specs.OneSlot.{slotNumbers, isTaken, recordIn, slotAt}
 use Rattle.records.proofs.OneSlot.{part-lent}
 use Rattle.rates.specs.declared.Contract.{Contract}
-use Rattle.rates.specs.Amounts.{amount, Rateable}
+use Rattle.amounts.specs.Amounts.{amount, Rateable}
 use Rattle.model.specs.declared.Row.{Row}
 use Rattle.model.specs.Contracts.{contractOf, isOpen}
 use Rattle.model.specs.PresentRules.{billOk}

@@ -69,7 +69,7 @@ fn row_ok(b: &[u8], row: Row) -> bool
     if !rules::ranges::bill_ok(contract, bill) {
         return false;
     }
-    rates::amounts::is_amount(contract, bill, row.amount)
+    amounts::is_amount(contract, bill, row.amount)
 }
 
 // Contract and day as one number, in order of contract, then day.

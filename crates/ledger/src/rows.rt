@@ -2,7 +2,7 @@
 use layout::FIRST_ROW;
 use layout::ROW_LENGTH;
 use model::Row;
-use rates::Bill;
+use amounts::Bill;
 ghost use mathlib.Core.Path.{_≡_};
 ghost use Prim.Native.Nat.{_<_};
 ghost use lib.ListN.{length};

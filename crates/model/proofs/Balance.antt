@@ -9,7 +9,7 @@ use Rattle.limits.specs.Limits.{ticksPerPenny}
 use Rattle.basics.specs.Lists.{All}
 use Rattle.basics.specs.Integers.{sumℤ}
 use Rattle.basics.proofs.Integers.{sub-ge, reset, sum-append}
-use Rattle.rates.specs.declared.Bill.{Bill}
+use Rattle.amounts.specs.declared.Bill.{Bill}
 use Rattle.model.specs.declared.Answer.{Answer}
 use Rattle.model.specs.declared.Answer.the-variants.{Claimed, Totalled}
 use Rattle.model.specs.Contracts.{contractOf, isOpen}

@@ -1,7 +1,8 @@
 -- One word each for the definitions by which an example's refusals, and its answers, are computed. Assumes nothing.
 use Rattle.calendar.specs.Days.{dates, dateOf, schemeMonth}
-use Rattle.rates.specs.Rates.{leastTerm, part, partOf, classRate, qhsClass, classOf}
-use Rattle.rates.specs.Amounts.{hasShares, shares, shareAmount, amount, restClass, rate}
+use Rattle.rates.specs.Rates.{leastTerm, part, partOf, classRate, qhsClass}
+use Rattle.amounts.specs.Days.{inFirst, between, byDay}
+use Rattle.amounts.specs.Amounts.{hasShares, restCertificate, shares, shareAt, billAt, amount, rate}
 use Rattle.model.specs.Codes.{opening, certify}
 use Rattle.model.specs.Contracts.{contractAt, isOpen, putContract}
 use Rattle.model.specs.Book.{reference}
@@ -17,5 +18,5 @@ refusalComputed = tt
 
 -- to unfold it is to unfold what the answers to calls are computed by
 unfoldable pub answersComputed : Unit {0}
-unfolding refusalComputed fresh view sortsAfter due priced rerated accept outcome step answer certify amount shareAmount shares hasShares rate restClass classOf qhsClass classRate partOf part leastTerm
+unfolding refusalComputed fresh view sortsAfter due priced rerated accept outcome step answer certify rate amount billAt shareAt shares restCertificate hasShares byDay between inFirst qhsClass classRate partOf part leastTerm
 answersComputed = tt

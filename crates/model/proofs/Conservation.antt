@@ -8,7 +8,7 @@ use lib.IntN.{pos, _+ℤ_, +ℤ-idr}
 use Rattle.basics.specs.Lists.{total, count}
 use Rattle.basics.proofs.Lists.{total-split, total-const}
 use Rattle.basics.proofs.Integers.{change, reset}
-use Rattle.rates.specs.declared.Bill.{Bill}
+use Rattle.amounts.specs.declared.Bill.{Bill}
 use Rattle.model.specs.declared.Row.{Row}
 use Rattle.model.specs.Contracts.{contractAt}
 use Rattle.model.specs.declared.Call.{Call}

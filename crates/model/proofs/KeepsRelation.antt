@@ -10,7 +10,7 @@ use Rattle.basics.specs.Lists.{All, total, count}
 use Rattle.basics.proofs.Tests.{either, and-left, and-right, and-yes, yes-le, eq-yes, yes-eq, eq-no, no-eq}
 use Rattle.basics.proofs.Lists.{all-map, total-all, total-cong, total-mono, total-split, total-map}
 use Rattle.rates.specs.declared.Contract.{Contract}
-use Rattle.rates.specs.declared.Bill.{Bill}
+use Rattle.amounts.specs.declared.Bill.{Bill}
 use Rattle.model.specs.declared.Row.{Row}
 use Rattle.model.specs.Codes.{opening, certify}
 use Rattle.model.specs.Contracts.{Contracts, contractAt, isOpen, putContract}

@@ -28,6 +28,7 @@ pub mod PriceOfEveryDay
 pub mod AcceptedCalls
 pub mod NumberFifteen
 pub mod QuarterExample
+pub mod StoredEarlier
 pub mod BookEntries
 pub mod BoundaryExamples
 pub mod RangeExamples

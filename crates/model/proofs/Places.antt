@@ -9,7 +9,7 @@ use lib.Dec.{ltb, leb·suc-suc}
 use lib.ListN.{length, take, drop, getD, set}
 use Rattle.basics.specs.Lists.{count}
 use Rattle.basics.proofs.Tests.{either, yes-lt}
-use Rattle.rates.specs.declared.Bill.{Bill}
+use Rattle.amounts.specs.declared.Bill.{Bill}
 use Rattle.model.specs.declared.Row.{Row}
 use Rattle.model.specs.Ledger.{sortsAfter, insert, amountOf, remove, replace}
 use Rattle.model.specs.Places.{placeOf}

@@ -12,7 +12,7 @@ use Rattle.basics.proofs.Tests.{eq-no}
 use Rattle.basics.proofs.Lists.{total-cong, total-split}
 use Rattle.basics.proofs.Integers.{sub-lt, sub-pos, sub-same, sum-append}
 use Rattle.rates.specs.declared.Contract.{Contract}
-use Rattle.rates.specs.declared.Bill.{Bill}
+use Rattle.amounts.specs.declared.Bill.{Bill}
 use Rattle.model.specs.Codes.{certify}
 use Rattle.model.specs.Contracts.{Contracts, contractAt, putContract}
 use Rattle.model.specs.declared.Call.{Call}

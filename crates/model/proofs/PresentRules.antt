@@ -8,9 +8,9 @@ use lib.Dec.{T}
 use Rattle.limits.specs.Limits.{highestPrice, mostKwhStored, contractCount, rowCount, mostClaims}
 use Rattle.basics.proofs.Tests.{not-no, no-not, not-yes, lt-no, lt-yes, le-no, le-yes, yes-le, all-every}
 use Rattle.rates.specs.declared.Contract.{Contract}
-use Rattle.rates.specs.declared.Bill.{Bill}
-use Rattle.rates.specs.Amounts.{Rateable}
-use Rattle.rates.proofs.WithinCaps.{amount-capped, amount-low}
+use Rattle.amounts.specs.declared.Bill.{Bill}
+use Rattle.amounts.specs.Amounts.{Rateable}
+use Rattle.amounts.proofs.AmountBounds.{amount-capped, amount-low}
 use Rattle.model.specs.Codes.{opening, certify}
 use Rattle.model.specs.ContractNumbers.{numbersOfContract, contractOfNumbers, fuelIn, kindIn, priceFixDayIn, entryDayIn, classIn, effectiveDayIn}
 use Rattle.model.specs.Contracts.{contractAt, isOpen}
@@ -80,9 +80,10 @@ pub bill-ranges : (k : Contract) (b : Bill) → billOk k b ≡ true → BillRang
 unfolding billOk
 bill-ranges k b e =
     let a = all-every (billTests k b) e in
+    let span : badSpan (b .first) (b .last) ≡ false = not-yes _ (search) in
     record {
-      span = not-yes _ (search);
-      rateable = record { kwh = le-yes _ _ (search); shares = lt-no _ _ (not-yes _ (search)); supply = le-yes _ _ (search) };
+      span = span;
+      rateable = record { days = span-days (b .first) (b .last) span .0; kwh = le-yes _ _ (search); shares = lt-no _ _ (not-yes _ (search)); supply = le-yes _ _ (search) };
       reference = le-yes _ _ (search);
       priced = not-yes _ (search);
     }

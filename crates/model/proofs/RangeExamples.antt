@@ -6,7 +6,7 @@ use lib.Dec.{leb}
 use Rattle.limits.specs.Limits.{lastDay, firstSchemeDay}
 use Rattle.basics.proofs.Tests.{not-no, not-yes, and-left, and-right, yes-le}
 use Rattle.rates.specs.declared.Contract.{Contract}
-use Rattle.rates.specs.declared.Bill.{Bill}
+use Rattle.amounts.specs.declared.Bill.{Bill}
 use Rattle.model.specs.PresentRules.{badKind, badDays, badEffective, badSpan, noPrice, contractRanges, billOk}
 use Rattle.model.specs.RangeExamples.{heldBills, keepsRanges, contractsInRange, contractsOutOfRange, endingOn, RangesKept}
 

@@ -3,7 +3,7 @@ use mathlib.Core.Path.{_≡_, ap}
 use mathlib.Core.Bool.{true, cond}
 use Prim.Native.Nat.{ℕ, _≤_}
 use Rattle.basics.specs.Lists.{All, total, count}
-use Rattle.rates.specs.declared.Bill.{Bill}
+use Rattle.amounts.specs.declared.Bill.{Bill}
 use Rattle.model.specs.declared.Row.{Row}
 use Rattle.model.specs.Contracts.{Contracts, contractAt, contractOf, isOpen}
 use Rattle.model.specs.Calls.{CallWithBook, named}

@@ -7,7 +7,7 @@ use lib.ListN.{length}
 use Rattle.limits.specs.Limits.{rowCount}
 use Rattle.basics.specs.Lists.{total, count}
 use Rattle.basics.proofs.Lists.{all-map, total-most}
-use Rattle.rates.proofs.WithinCaps.{highestAmount}
+use Rattle.amounts.proofs.AmountBounds.{highestAmount}
 use Rattle.model.specs.declared.Row.{Row}
 use Rattle.model.specs.Contracts.{Contracts}
 use Rattle.model.specs.Rules.{Rules, partOfDue}

@@ -10,7 +10,7 @@ use Rattle.limits.specs.Limits.{lastDay}
 use Rattle.basics.specs.Lists.{All}
 use Rattle.basics.proofs.Tests.{either, and-left, and-right, yes-le, lt-no, lt-yes, eq-yes, yes-eq, eq-no, or-no-left, or-no-right, or-yes, and-no, le-no}
 use Rattle.basics.proofs.Lists.{all-map, all-both}
-use Rattle.rates.specs.declared.Bill.{Bill}
+use Rattle.amounts.specs.declared.Bill.{Bill}
 use Rattle.model.specs.declared.Row.{Row}
 use Rattle.model.specs.Calls.{sharing}
 use Rattle.model.specs.WellFormed.{before, Apart}

@@ -7,7 +7,7 @@ use native.Mathlib.Omega.{arith}
 use Rattle.basics.specs.Lists.{total, count}
 use Rattle.basics.proofs.Tests.{either}
 use Rattle.basics.proofs.Lists.{total-none, total-zero}
-use Rattle.rates.specs.declared.Bill.{Bill}
+use Rattle.amounts.specs.declared.Bill.{Bill}
 use Rattle.model.specs.declared.Row.{Row}
 use Rattle.model.specs.Ledger.{insert, amountOf, remove, replace, sortsAfter}
 use Rattle.model.specs.Sheet.{strikeOut, inPlaceOf}

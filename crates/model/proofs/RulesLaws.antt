@@ -5,8 +5,8 @@ use mathlib.Core.List.{List}
 use Prim.Native.Nat.{ℕ, _<_, _≤_}
 use Rattle.limits.specs.Limits.{lastDay, rowCount, mostClaims}
 use Rattle.rates.specs.declared.Contract.{Contract}
-use Rattle.rates.specs.declared.Bill.{Bill}
-use Rattle.rates.proofs.WithinCaps.{highestAmount}
+use Rattle.amounts.specs.declared.Bill.{Bill}
+use Rattle.amounts.proofs.AmountBounds.{highestAmount}
 use Rattle.model.specs.Codes.{opening, certify}
 use Rattle.model.specs.Contracts.{contractAt, isOpen}
 use Rattle.model.specs.declared.Call.{Call}

@@ -7,7 +7,7 @@ use native.Mathlib.Omega.{arith}
 use lib.Dec.{eqb}
 use Rattle.basics.specs.Lists.{count}
 use Rattle.basics.proofs.Tests.{and-left, and-right, and-yes, eq-yes, yes-eq}
-use Rattle.rates.specs.declared.Bill.{Bill}
+use Rattle.amounts.specs.declared.Bill.{Bill}
 use Rattle.model.specs.declared.Row.{Row}
 use Rattle.model.specs.Rules.{Rules, standingRow}
 use Rattle.model.specs.Ledger.{Ledger}

@@ -13,7 +13,7 @@ use Rattle.basics.specs.Lists.{All, total, count}
 use Rattle.basics.proofs.Tests.{either, eq-yes, eq-no, no-eq, and-no-left}
 use Rattle.basics.proofs.Lists.{all-map, none-all, all-both, all-over, count-true}
 use Rattle.rates.specs.declared.Contract.{Contract}
-use Rattle.rates.specs.declared.Bill.{Bill}
+use Rattle.amounts.specs.declared.Bill.{Bill}
 use Rattle.model.specs.declared.Row.{Row}
 use Rattle.model.specs.Codes.{opening, certify}
 use Rattle.model.specs.Contracts.{Contracts, contractAt, isOpen, putContract}

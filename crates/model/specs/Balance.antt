@@ -5,7 +5,7 @@ use Prim.Native.Nat.{ℕ, _<_, _≤_}
 use lib.IntN.{ℤ, pos, _+ℤ_, _*ℤ_}
 use Rattle.limits.specs.Limits.{ticksPerPenny}
 use Rattle.basics.specs.Integers.{sumℤ}
-use Rattle.rates.specs.declared.Bill.{Bill}
+use Rattle.amounts.specs.declared.Bill.{Bill}
 use Rattle.model.specs.declared.Row.{Row}
 use Rattle.model.specs.declared.Answer.{Answer}
 use Rattle.model.specs.declared.Answer.the-variants.{Claimed, Totalled}

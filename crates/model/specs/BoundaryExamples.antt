@@ -8,7 +8,7 @@ use lib.Dec.{eqb}
 use lib.ListN.{replicate}
 use Rattle.basics.specs.Tests.{every}
 use Rattle.basics.specs.Lists.{All}
-use Rattle.rates.specs.declared.Bill.{Bill}
+use Rattle.amounts.specs.declared.Bill.{Bill}
 use Rattle.model.specs.Codes.{opening}
 use Rattle.model.specs.Contracts.{noContracts, putContract}
 use Rattle.model.specs.declared.Call.{Call}

@@ -7,7 +7,7 @@ use Rattle.rates.specs.declared.Fuel.the-variants.{Electricity}
 use Rattle.rates.specs.declared.Kind.the-variants.{Variable}
 use Rattle.rates.specs.declared.Certificate.the-variants.{None}
 use Rattle.rates.specs.declared.Contract.{Contract}
-use Rattle.rates.specs.declared.Bill.{Bill}
+use Rattle.amounts.specs.declared.Bill.{Bill}
 
 -- none where the number isn't open
 abbrev pub Contracts : Type 0

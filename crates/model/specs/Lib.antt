@@ -19,10 +19,12 @@ pub mod SheetAnswers
 pub mod Postings
 pub mod Run
 pub mod LandlordExample
+pub mod CertificateInsideExample
 pub mod PriceOfEveryDay
 pub mod AcceptedCalls
 pub mod NumberFifteen
 pub mod QuarterExample
+pub mod StoredEarlier
 pub mod BookEntries
 pub mod BoundaryExamples
 pub mod RangeExamples

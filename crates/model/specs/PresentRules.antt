@@ -11,8 +11,8 @@ use Rattle.basics.specs.Lists.{count}
 use Rattle.calendar.specs.Days.{schemeMonth}
 use Rattle.rates.specs.declared.Kind.{Kind}
 use Rattle.rates.specs.declared.Contract.{Contract}
-use Rattle.rates.specs.declared.Bill.{Bill}
-use Rattle.rates.specs.Amounts.{rate, amount, cap}
+use Rattle.amounts.specs.declared.Bill.{Bill}
+use Rattle.amounts.specs.Amounts.{rate, amount, cap}
 use Rattle.model.specs.Codes.{isFlexible, isMonthly}
 use Rattle.model.specs.ContractNumbers.{numbersOfContract, fuelIn, kindIn, priceFixDayIn, entryDayIn, classIn, effectiveDayIn}
 use Rattle.model.specs.Contracts.{contractAt, contractOf, isOpen}

@@ -1,5 +1,5 @@
 // A held row, the calls of a history and their answers. The rest of this crate is mathematics: specs/ and proofs/.
-use rates::Bill;
+use amounts::Bill;
 
 // A held row: a bill that stands, with its amount in ticks.
 pub struct Row {

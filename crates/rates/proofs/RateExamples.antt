@@ -14,8 +14,7 @@ use Rattle.rates.specs.declared.Kind.{Kind}
 use Rattle.rates.specs.declared.Class.the-variants.{QhsOld, QhsNew}
 use Rattle.rates.specs.declared.Prices.the-variants.{Unlimited}
 use Rattle.rates.specs.Rates.{leastTerm, part, partOf, classRate, classCap, enteredEarly, qhsClass, classOf}
-use Rattle.rates.specs.Amounts.{hasShares, shares, shareCap, cap, restClass, rate}
-use Rattle.rates.specs.TwelveRates.{example, contractIn, billIn, rated}
+use Rattle.rates.specs.TwelveRates.{example, contractIn, classIn, rated}
 use Rattle.rates.specs.RateExamples.{capIn, caps, firstDiscounts, classes, CapsAttained, DiscountsBegin, ClassesApplied}
 use Rattle.rates.proofs.Parts.{part-unlimited}
 
@@ -34,13 +33,13 @@ qhs fuel kind first S = by-class fuel (leb newMinimumDay first && not (enteredEa
     by-class Gas false = whole-part _ S
 
 pub caps-attained : CapsAttained
-unfolding caps capIn example contractIn billIn rated rate restClass cap shares shareCap hasShares classOf qhsClass classRate classCap partOf part leastTerm
+unfolding caps capIn example contractIn classIn rated classOf qhsClass classRate classCap partOf part leastTerm
 caps-attained = record { caps-given = refl; rates-as-high = refl; qhs = qhs }
 
 pub discounts-begin : DiscountsBegin
-unfolding firstDiscounts example contractIn billIn rated rate restClass hasShares classOf qhsClass classRate partOf part leastTerm
+unfolding firstDiscounts example contractIn classIn rated classOf qhsClass classRate partOf part leastTerm
 discounts-begin = refl
 
 pub classes-applied : ClassesApplied
-unfolding classes example contractIn billIn rated rate restClass hasShares classOf qhsClass classRate partOf part leastTerm
+unfolding classes example contractIn classIn rated classOf qhsClass classRate partOf part leastTerm
 classes-applied = refl

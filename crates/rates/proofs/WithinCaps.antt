@@ -1,26 +1,18 @@
--- A class's rate is at most its cap, and so is a bill's amount over its shares; within the paper's ranges it fits 50 bits. Assumes
--- nothing.
-use Prim.Native.Nat.{ℕ, _*_, _^_, _<_, _≤_}
+-- A class's rate is at most its cap, and below 10,000,000 ticks within document 01's range of S. Assumes nothing.
+use Prim.Native.Nat.{ℕ, _*_, _≤_}
 use native.Mathlib.Omega.{arith}
-use native.Mathlib.Nat.{mul-le-mul-left}
 use lib.IntN.{pos, _-ℤ_}
-use Rattle.limits.specs.Limits.{highestPrice, mostKwhStored}
-use Rattle.basics.specs.Lists.{total}
+use Rattle.limits.specs.Limits.{highestPrice}
 use Rattle.basics.specs.Integers.{atLeastZero}
-use Rattle.basics.proofs.Lists.{total-le, total-times}
 use Rattle.basics.proofs.Integers.{difference-at-least-zero}
 use Rattle.rates.specs.declared.Fuel.{Fuel}
 use Rattle.rates.specs.declared.Fuel.the-variants.{Electricity, Gas}
 use Rattle.rates.specs.declared.Class.{Class}
 use Rattle.rates.specs.declared.Class.the-variants.{Baseline, Etii, QhsOld, QhsNew}
 use Rattle.rates.specs.declared.Prices.the-variants.{Limited, Unlimited}
-use Rattle.rates.specs.declared.Contract.{Contract}
-use Rattle.rates.specs.declared.Bill.{Bill}
 use Rattle.rates.specs.Prices.{pricesOf, minimumOf}
 use Rattle.rates.specs.Rates.{part, partOf, classRate, classCap}
-use Rattle.rates.specs.Amounts.{restClass, shares, shareAmount, amount, shareCap, cap, rate, Rateable}
 use Rattle.rates.proofs.Parts.{part-limited, part-unlimited}
-use Rattle.rates.proofs.Shares.{shares-whole}
 
 -- a part is at most the maximum discount, or of QHS at most S − QHS minimum
 limited-le : (support maximum minimum R S : ℕ) → part (Limited support maximum minimum) R S ≤ maximum
@@ -40,12 +32,9 @@ class-rate-capped Electricity QhsNew R S = unlimited-le _ R S
 class-rate-capped Gas QhsOld R S = unlimited-le _ R S
 class-rate-capped Gas QhsNew R S = unlimited-le _ R S
 
--- no rate and no amount within the paper's ranges is higher
+-- no rate within the paper's range of S is higher
 abbrev pub highestRate : ℕ
 highestRate = 10 * highestPrice
-
-abbrev pub highestAmount : ℕ
-highestAmount = mostKwhStored * highestRate
 
 held-le : (minimum S : ℕ) → S ≤ highestPrice → 10 * atLeastZero (pos S -ℤ pos minimum) ≤ highestRate
 held-le minimum S h = omega (arith, difference-at-least-zero S minimum)
@@ -62,24 +51,3 @@ class-cap-low fuel QhsNew S h = held-le (minimumOf (pricesOf fuel QhsNew)) S h
 -- the rate of a class within the paper's ranges
 pub class-rate-low : (fuel : Fuel) (class : Class) (R S : ℕ) → S ≤ highestPrice → classRate fuel class R S ≤ highestRate
 class-rate-low fuel class R S h = omega (arith, class-rate-capped fuel class R S, class-cap-low fuel class S h)
-
--- the rate that a bill answers
-pub rate-low : (contract : Contract) (bill : Bill) → bill .supply ≤ highestPrice → rate contract bill ≤ highestRate
-unfolding rate
-rate-low contract bill h = class-rate-low (contract .fuel) (restClass contract bill) (bill .reference) (bill .supply) h
-
-pub amount-capped : (contract : Contract) (bill : Bill) → amount contract bill ≤ cap contract bill
-unfolding amount cap shareAmount shareCap
-amount-capped contract bill =
-    total-le _ _ (λ s. mul-le-mul-left (s .kwh) (class-rate-capped (contract .fuel) (s .class) (bill .reference) (bill .supply))) (shares contract bill)
-
--- within the ranges of a row
-pub amount-low : (contract : Contract) (bill : Bill) → Rateable bill → amount contract bill ≤ highestAmount
-unfolding amount shareAmount
-amount-low contract bill ok =
-    let each : total (shareAmount contract bill) (shares contract bill) ≤ total (λ s. s .kwh * highestRate) (shares contract bill)
-    = total-le _ _ (λ s. mul-le-mul-left (s .kwh) (class-rate-low (contract .fuel) (s .class) (bill .reference) (bill .supply) (ok .supply))) (shares contract bill) in
-    omega (arith, each, total-times (λ s. s .kwh) highestRate (shares contract bill), shares-whole contract bill (ok .shares), ok .kwh)
-
-pub amount-bits : (contract : Contract) (bill : Bill) → Rateable bill → amount contract bill < 2 ^ 50
-amount-bits contract bill ok = omega (arith, amount-low contract bill ok)

@@ -1,7 +1,5 @@
--- Document 01's prices per kWh, the rates that they give, and a bill's amount over its shares.
+-- Document 01's prices per kWh, and the rates and caps that they give.
 pub mod Prices
 pub mod Rates
-pub mod Amounts
 pub mod TwelveRates
 pub mod RateExamples
-pub mod SharesRated

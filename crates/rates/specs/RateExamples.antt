@@ -10,8 +10,7 @@ use Rattle.rates.specs.declared.Kind.the-variants.{Fixed, Variable, Flex
 use Rattle.rates.specs.declared.Certificate.{Certificate}
 use Rattle.rates.specs.declared.Certificate.the-variants.{None, Etii, Qhs}
 use Rattle.rates.specs.Rates.{classRate, qhsClass, classCap}
-use Rattle.rates.specs.Amounts.{cap}
-use Rattle.rates.specs.TwelveRates.{Example, example, contractIn, billIn, rated}
+use Rattle.rates.specs.TwelveRates.{Example, example, classIn, rated}
 
 -- the examples have the rates given
 abbrev pub RatesGiven : List Example → Type 0
@@ -19,9 +18,9 @@ RatesGiven es = map rated es ≡ map (λ e. e .ticks) es
 
 -- ---- caps: each is reached by a bill, so that none can be raised or lowered
 
--- the cap of an example's bill, of 1 kWh
+-- the cap of an example's class
 unfoldable pub capIn : Example → ℕ
-capIn e = cap (contractIn e) (billIn e)
+capIn e = classCap (e .fuel) (classIn e) (e .S)
 
 -- "baseline 19,610 electricity and 6,970 gas; ETII 68,183 and 30,091; QHS 10 times max(S − QHS minimum, 0)"
 unfoldable pub caps : List Example

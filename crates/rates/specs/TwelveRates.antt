@@ -9,8 +9,8 @@ use Rattle.rates.specs.declared.Kind.the-variants.{Fixed, Flexible}
 use Rattle.rates.specs.declared.Certificate.{Certificate}
 use Rattle.rates.specs.declared.Certificate.the-variants.{None, Etii, Qhs}
 use Rattle.rates.specs.declared.Contract.{Contract}
-use Rattle.rates.specs.declared.Bill.{Bill}
-use Rattle.rates.specs.Amounts.{rate}
+use Rattle.rates.specs.declared.Class.{Class}
+use Rattle.rates.specs.Rates.{classRate, classOf}
 
 -- a row of the table: a contract, a bill's first day, R and S, and the rate in ticks
 pub record Example : Type 0 where
@@ -25,15 +25,15 @@ pub record Example : Type 0 where
 unfoldable pub example : Fuel → Kind → Certificate → (first R S ticks : ℕ) → Example
 example f k c d R S t = record { fuel = f; kind = k; certificate = c; first = d; R = R; S = S; ticks = t }
 
--- the contract of a row, a bill of 1 kWh without shares to the last day 851, and the bill's rate
+-- the class of a row's bill, by its contract and its first day, and the rate of that class
 unfoldable pub contractIn : Example → Contract
 contractIn e = record { fuel = e .fuel; kind = e .kind; certificate = e .certificate }
 
-unfoldable pub billIn : Example → Bill
-billIn e = record { contract = 0; first = e .first; last = 851; kwh = 1; etii = 0; qhs = 0; reference = e .R; supply = e .S }
+unfoldable pub classIn : Example → Class
+classIn e = classOf (contractIn e) (e .first)
 
 unfoldable pub rated : Example → ℕ
-rated e = rate (contractIn e) (billIn e)
+rated e = classRate (e .fuel) (classIn e) (e .R) (e .S)
 
 -- P1 to P12, in their order
 unfoldable pub examples : List Example

@@ -1,5 +1,4 @@
-// The discount per kWh: contracts, certificates, bills, classes, parts and the rates of the classes.
-pub mod amounts;
+// The discount per kWh: contracts, certificates, classes, parts and the rates of the classes.
 mod fuels;
 
 use fuels::Electricity;
@@ -37,20 +36,7 @@ pub struct Contract {
     pub certificate: Certificate,
 }
 
-// A bill: its contract's number, first and last day, kWh, of these the kWh in the ETII share and in the QHS share, and the reference and
-// supply prices R and S in mils.
-pub struct Bill {
-    pub contract: u32,
-    pub first: u32,
-    pub last: u32,
-    pub kwh: u32,
-    pub etii: u32,
-    pub qhs: u32,
-    pub reference: u32,
-    pub supply: u32,
-}
-
-// The class of a bill or of a share; of QHS, with the minimum that applies.
+// The class of a day; of QHS, with the minimum that applies.
 pub enum Class {
     Baseline,
     Etii,
@@ -119,7 +105,7 @@ fn part_of(fuel: Fuel, class: Class, reference: u32, supply: u32) -> u64
 }
 
 // The rate of a class, in ticks.
-fn class_rate(fuel: Fuel, class: Class, reference: u32, supply: u32) -> u64
+pub fn class_rate(fuel: Fuel, class: Class, reference: u32, supply: u32) -> u64
     ensures { λ r. ⌜ r ≡ classRate fuel class reference supply ⌝ }
 {
     match class {
@@ -135,7 +121,7 @@ fn class_rate(fuel: Fuel, class: Class, reference: u32, supply: u32) -> u64
 }
 
 // Whether a contract is fixed and was entered before the new minimum.
-fn entered_early(kind: Kind) -> bool
+pub fn entered_early(kind: Kind) -> bool
     ensures { λ r. ⌜ r ≡ enteredEarly kind ⌝ }
 {
     match kind {
@@ -149,7 +135,7 @@ fn entered_early(kind: Kind) -> bool
     }
 }
 
-// The class of a qualifying heat supplier's bill or share with that first day.
+// The class of a qualifying heat supplier's bill with that first day.
 fn qhs_class(kind: Kind, first: u32) -> Class
     ensures { λ r. ⌜ r ≡ qhsClass kind first ⌝ }
 {
@@ -163,7 +149,7 @@ fn qhs_class(kind: Kind, first: u32) -> Class
 }
 
 // The class of a contract's bill with that first day.
-fn class_of(contract: Contract, first: u32) -> Class
+pub fn class_of(contract: Contract, first: u32) -> Class
     ensures { λ r. ⌜ r ≡ classOf contract first ⌝ }
 {
     let certificate = contract.certificate;

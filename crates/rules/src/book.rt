@@ -4,7 +4,7 @@ use limits::BOOK_LENGTH;
 use limits::DAY_COUNT;
 use limits::HIGHEST_PRICE;
 use model::Request;
-use rates::Bill;
+use amounts::Bill;
 use rates::Contract;
 use rates::Fuel;
 use rates::Kind;

@@ -8,7 +8,7 @@ use limits::LAST_DAY;
 use limits::MOST_KWH_GIVEN;
 use limits::MOST_KWH_STORED;
 use model::Request;
-use rates::Bill;
+use amounts::Bill;
 use rates::Contract;
 use rates::Kind;
 ghost use mathlib.Core.Path.{_≡_};

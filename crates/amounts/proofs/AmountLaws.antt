@@ -1,0 +1,109 @@
+-- The laws of every bill's amount and cap: over shares, over stretches, without a change inside, and their bounds. Assumes nothing.
+use mathlib.Core.Path.{_≡_, refl, sym, _∙_}
+use Prim.Native.Nat.{ℕ, _+_, _-_, _*_, _<_, _≤_, zero-le}
+use native.Mathlib.Omega.{arith}
+use Rattle.basics.specs.Lists.{All}
+use Rattle.basics.proofs.Lists.{all-map, total-all, total-cong}
+use Rattle.rates.specs.declared.Contract.{Contract}
+use Rattle.rates.specs.declared.Class.{Class}
+use Rattle.rates.specs.declared.Class.the-variants.{Baseline, Etii}
+use Rattle.rates.specs.Rates.{classRate, classCap, qhsClass, certifiedClass, classOf}
+use Rattle.amounts.specs.declared.Bill.{Bill}
+use Rattle.amounts.specs.Days.{byDay}
+use Rattle.amounts.specs.Amounts.{daysOf, shares, shareAt, billAt, rateOf, capOf, amount, cap, rate}
+use Rattle.amounts.specs.AmountLaws.{byStretches, NoChangeInside, earlierAmount, SharesRated, StretchesRated, WithoutChangeInside, AmountsBounded}
+use Rattle.amounts.proofs.Days.{by-day-cong}
+use Rattle.amounts.proofs.Stretches.{sum-over-stretches, one-class}
+use Rattle.amounts.proofs.Certificates.{etii-from, qhs-from, changes, at-most-three, cut}
+use Rattle.amounts.proofs.Shares.{none-given, some-given, certificate-kept, set-aside, shares-whole, bill-without, bill-with, bill-one-price}
+use Rattle.amounts.proofs.KwhFound.{share-none, share-stretches}
+use Rattle.amounts.proofs.AmountBounds.{amount-capped, amount-bits}
+
+-- ---- shares
+
+module _ (price : Class → ℕ) (contract : Contract) (bill : Bill) where
+  without : bill .etii ≡ 0 → bill .qhs ≡ 0 → billAt price contract bill ≡ byDay price (bill .kwh) (daysOf bill) (λ j. classOf contract (bill .first + j))
+  unfolding shareAt classOf
+  without etii qhs = bill-without price contract bill (none-given bill etii qhs)
+
+  with-some : bill .first ≤ bill .last → 0 < bill .etii + bill .qhs
+      → billAt price contract bill
+      ≡ (bill .kwh - (bill .etii + bill .qhs)) * price Baseline
+      + bill .etii * price Etii
+      + byDay price (bill .qhs) (daysOf bill) (λ j. qhsClass (contract .kind) (bill .first + j))
+  unfolding shareAt
+  with-some days some =
+      let n : 0 < daysOf bill = omega arith in
+      bill-with price contract bill (some-given bill some)
+      ∙ omega (
+        arith,
+        one-class price (bill .kwh - (bill .etii + bill .qhs)) (daysOf bill) (λ j. Baseline) Baseline n (λ j h. refl),
+        one-class price (bill .etii) (daysOf bill) _ Etii n (λ j h. etii-from 0 (contract .kind) (bill .first + j) zero-le),
+        by-day-cong price (bill .qhs) (daysOf bill) _ (λ j. qhsClass (contract .kind) (bill .first + j)) (λ j. qhs-from 0 (contract .kind) (bill .first + j) zero-le),
+      )
+
+rate-without : (contract : Contract) (bill : Bill) → bill .etii ≡ 0 → bill .qhs ≡ 0
+    → rate contract bill ≡ classRate (contract .fuel) (classOf contract (bill .first)) (bill .reference) (bill .supply)
+unfolding rate classOf
+rate-without contract bill etii qhs = rw (certificate-kept contract bill (none-given bill etii qhs))
+
+rate-with : (contract : Contract) (bill : Bill) → 0 < bill .etii + bill .qhs → rate contract bill ≡ classRate (contract .fuel) Baseline (bill .reference) (bill .supply)
+unfolding rate
+rate-with contract bill some = rw (set-aside contract bill (some-given bill some))
+
+pub shares-rated : SharesRated
+shares-rated = record { without = without; rate-without = rate-without; with-some = with-some; rate-with = rate-with; whole = shares-whole }
+
+-- ---- stretches
+
+summed : (price : Class → ℕ) (contract : Contract) (bill : Bill) → billAt price contract bill ≡ byStretches price contract bill
+unfolding billAt
+summed price contract bill = total-cong _ _ (λ s. share-stretches price (contract .kind) bill (s .kwh) (s .certificate)) (shares contract bill)
+
+pub stretches-rated : StretchesRated
+stretches-rated = record {
+  any-cut = sum-over-stretches;
+  cut = cut;
+  at-most-three = at-most-three;
+  summed = summed;
+  changes = changes;
+  whole = λ contract bill days within. sym (summed (λ c. 1) contract bill) ∙ omega (arith, bill-one-price 1 contract bill days within);
+}
+
+-- ---- without a change inside
+
+module _ (price : Class → ℕ) (contract : Contract) (bill : Bill) (days : bill .first ≤ bill .last) where
+  -- k kWh of one class
+  one : (k : ℕ) (class : ℕ → Class) → NoChangeInside class bill → byDay price k (daysOf bill) (λ j. class (bill .first + j)) ≡ k * price (class (bill .first))
+  one k class same = one-class price k (daysOf bill) (λ j. class (bill .first + j)) (class (bill .first)) (omega arith) (λ j h. same (bill .first + j) (omega arith) (omega arith))
+
+  priced : bill .etii ≡ 0 → bill .qhs ≡ 0 → NoChangeInside (classOf contract) bill → billAt price contract bill ≡ bill .kwh * price (classOf contract (bill .first))
+  priced etii qhs same = without price contract bill etii qhs ∙ one (bill .kwh) (classOf contract) same
+
+  shares-kept : 0 < bill .etii + bill .qhs → NoChangeInside (qhsClass (contract .kind)) bill
+      → billAt price contract bill
+      ≡ (bill .kwh - (bill .etii + bill .qhs)) * price Baseline
+      + bill .etii * price Etii
+      + bill .qhs * price (qhsClass (contract .kind) (bill .first))
+  shares-kept some same = with-some price contract bill days some ∙ omega (arith, one (bill .qhs) (qhsClass (contract .kind)) same)
+
+as-before : (contract : Contract) (bill : Bill) → bill .first ≤ bill .last → All (λ s. NoChangeInside (certifiedClass (s .certificate) (contract .kind)) bill) (shares contract bill)
+    → amount contract bill ≡ earlierAmount contract bill
+unfolding amount billAt shareAt earlierAmount
+as-before contract bill days same =
+    total-all _ _ (shares contract bill)
+    (all-map _ _ (λ s h. one (rateOf contract bill) contract bill days (s .kwh) (certifiedClass (s .certificate) (contract .kind)) h) (shares contract bill) same)
+
+pub without-change-inside : WithoutChangeInside
+unfolding amount cap
+without-change-inside = record {
+  as-before = as-before;
+  kept = λ contract bill days etii qhs same. rw (rate-without contract bill etii qhs) (priced (rateOf contract bill) contract bill days etii qhs same);
+  cap-kept = λ contract bill days etii qhs same. priced (capOf contract bill) contract bill days etii qhs same;
+  shares-kept = shares-kept;
+}
+
+-- ---- bounds
+
+pub amounts-bounded : AmountsBounded
+amounts-bounded = record { capped = amount-capped; fifty-bits = amount-bits }

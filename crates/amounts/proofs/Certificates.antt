@@ -1,0 +1,90 @@
+-- The class of each day under a certificate, its changes, and the stretches that they cut. Assumes nothing.
+use mathlib.Core.Path.{_≡_, refl, sym, _∙_}
+use mathlib.Core.Bool.{true, false}
+use Prim.Native.Nat.{ℕ, suc, _+_, _-_, _≤_, _<_, zero-le}
+use native.Mathlib.Omega.{arith}
+use lib.Dec.{leb}
+use lib.ListN.{length}
+use Rattle.limits.specs.Limits.{newMinimumDay}
+use Rattle.basics.proofs.Tests.{either, yes-le, no-le, le-yes, le-no}
+use Rattle.rates.specs.declared.Kind.{Kind}
+use Rattle.rates.specs.declared.Certificate.{Certificate}
+use Rattle.rates.specs.declared.Certificate.the-variants.{None, Etii, Qhs}
+use Rattle.rates.specs.declared.Class.the-variants as class
+use Rattle.rates.specs.Rates.{enteredEarly, qhsClass, certifiedClass}
+use Rattle.amounts.specs.Stretches.{Cut, stretchesOf}
+use Rattle.amounts.specs.AmountLaws.{effectiveDay}
+
+-- ---- the QHS class of a day
+
+qhs-early : (kind : Kind) (day : ℕ) → enteredEarly kind ≡ true → qhsClass kind day ≡ class.QhsOld
+unfolding qhsClass
+qhs-early kind day e = either (leb newMinimumDay day) (λ l. rw (l, e)) (λ l. rw l)
+
+qhs-old : (kind : Kind) (day : ℕ) → day < newMinimumDay → qhsClass kind day ≡ class.QhsOld
+unfolding qhsClass
+qhs-old kind day h = rw (no-le newMinimumDay day h)
+
+qhs-new : (kind : Kind) (day : ℕ) → enteredEarly kind ≡ false → newMinimumDay ≤ day → qhsClass kind day ≡ class.QhsNew
+unfolding qhsClass
+qhs-new kind day e h = rw (yes-le newMinimumDay day h, e)
+
+-- ---- before the effective day, and from it on
+
+etii-before : (e : ℕ) (kind : Kind) (day : ℕ) → day < e → certifiedClass (Etii e) kind day ≡ class.Baseline
+etii-before e kind day h = rw (no-le e day h)
+
+pub etii-from : (e : ℕ) (kind : Kind) (day : ℕ) → e ≤ day → certifiedClass (Etii e) kind day ≡ class.Etii
+etii-from e kind day h = rw (yes-le e day h)
+
+qhs-before : (e : ℕ) (kind : Kind) (day : ℕ) → day < e → certifiedClass (Qhs e) kind day ≡ class.Baseline
+qhs-before e kind day h = rw (no-le e day h)
+
+pub qhs-from : (e : ℕ) (kind : Kind) (day : ℕ) → e ≤ day → certifiedClass (Qhs e) kind day ≡ qhsClass kind day
+qhs-from e kind day h = rw (yes-le e day h)
+
+-- ---- a class changes on the effective day and on the day of the new minimum alone
+
+-- that a day has come by is the same of the day before, unless it is that day
+same-side : (d day : ℕ) → (suc day ≡ d → ⊥) → leb d (suc day) ≡ leb d day
+same-side d day n = either (leb d day)
+    (λ y. let l : d ≤ day = le-yes d day y in yes-le d (suc day) (omega arith) ∙ sym y)
+    (λ f. let l : day < d = le-no d day f in no-le d (suc day) (omega (arith, n)) ∙ sym f)
+
+pub changes : (certificate : Certificate) (kind : Kind) (day : ℕ) → (suc day ≡ effectiveDay certificate → ⊥) → (suc day ≡ newMinimumDay → ⊥)
+    → certifiedClass certificate kind (suc day) ≡ certifiedClass certificate kind day
+unfolding qhsClass
+changes None kind day e m = refl
+changes (Etii effective) kind day e m = rw (same-side effective day e)
+changes (Qhs effective) kind day e m = rw (same-side effective day e, same-side newMinimumDay day m)
+
+-- ---- the stretches of a certificate
+
+pub at-most-three : (certificate : Certificate) (kind : Kind) (first n : ℕ) → length (stretchesOf certificate kind first n) ≤ 3
+at-most-three None kind first n = omega arith
+at-most-three (Etii e) kind first n = omega arith
+at-most-three (Qhs e) kind first n = either (enteredEarly kind) (λ t. rw t (omega arith)) (λ t. rw t (omega arith))
+
+pub cut : (certificate : Certificate) (kind : Kind) (first n : ℕ) → Cut n (λ j. certifiedClass certificate kind (first + j)) 0 (stretchesOf certificate kind first n)
+cut None kind first n = (zero-le, (λ j l h. refl), refl)
+cut (Etii e) kind first n =
+    (zero-le, (λ j l h. etii-before e kind (first + j) (omega arith)), (omega arith, (λ j l h. etii-from e kind (first + j) (omega arith)), refl))
+cut (Qhs e) kind first n = either (enteredEarly kind) early late
+  where
+    early : enteredEarly kind ≡ true → Cut n (λ j. certifiedClass (Qhs e) kind (first + j)) 0 (stretchesOf (Qhs e) kind first n)
+    early t = rw t (
+      zero-le,
+      (λ j l h. qhs-before e kind (first + j) (omega arith)),
+      (omega arith, (λ j l h. qhs-from e kind (first + j) (omega arith) ∙ qhs-early kind (first + j) t), refl),
+    )
+
+    late : enteredEarly kind ≡ false → Cut n (λ j. certifiedClass (Qhs e) kind (first + j)) 0 (stretchesOf (Qhs e) kind first n)
+    late t = rw t (
+      zero-le,
+      (λ j l h. qhs-before e kind (first + j) (omega arith)),
+      (
+        omega arith,
+        (λ j l h. qhs-from e kind (first + j) (omega arith) ∙ qhs-old kind (first + j) (omega arith)),
+        (omega arith, (λ j l h. qhs-from e kind (first + j) (omega arith) ∙ qhs-new kind (first + j) t (omega arith)), refl),
+      ),
+    )

@@ -1,0 +1,93 @@
+-- A bill over its shares: without shares all of it is under its contract's certificate, and with shares the rest is under none. Assumes
+-- nothing.
+use mathlib.Core.Path.{_≡_, refl, ap, _∙_}
+use mathlib.Core.Bool.{true, false, not}
+use mathlib.Core.List.{[], _∷_}
+use Prim.Native.Nat.{ℕ, zero, suc, _+_, _-_, _*_, _≤_, _<_}
+use native.Mathlib.Nat.{zero-mul, zero-div}
+use native.Mathlib.Omega.{arith}
+use lib.Dec.{eqb}
+use Rattle.basics.specs.Lists.{total}
+use Rattle.basics.proofs.Lists.{total-cong, total-le, total-times}
+use Rattle.basics.proofs.Tests.{either, not-no, eq-yes, no-eq, or-no-left, or-no-right}
+use Rattle.rates.specs.declared.Contract.{Contract}
+use Rattle.rates.specs.declared.Certificate.{Certificate}
+use Rattle.rates.specs.declared.Certificate.the-variants.{None, Etii, Qhs}
+use Rattle.rates.specs.declared.Class.{Class}
+use Rattle.rates.specs.declared.Kind.{Kind}
+use Rattle.amounts.specs.declared.Bill.{Bill}
+use Rattle.amounts.specs.Days.{inFirst, between, sumOver, byDay}
+use Rattle.amounts.specs.Amounts.{daysOf, share, hasShares, restCertificate, shares, shareAt, billAt}
+use Rattle.amounts.proofs.Days.{by-day-le}
+use Rattle.amounts.proofs.Stretches.{one-price}
+
+-- ---- whether a bill has shares
+
+pub none-given : (bill : Bill) → bill .etii ≡ 0 → bill .qhs ≡ 0 → hasShares bill ≡ false
+unfolding hasShares
+none-given bill etii qhs = rw (etii, qhs)
+
+pub some-given : (bill : Bill) → 0 < bill .etii + bill .qhs → hasShares bill ≡ true
+unfolding hasShares
+some-given bill h = either (eqb (bill .etii) 0) (λ y. rw (y, no-eq (bill .qhs) 0 (λ z. omega (arith, eq-yes (bill .etii) 0 y)))) (λ n. rw n)
+
+given-none : (bill : Bill) → hasShares bill ≡ false → (bill .etii ≡ 0) × (bill .qhs ≡ 0)
+unfolding hasShares
+given-none bill none =
+    (eq-yes _ _ (not-no _ (or-no-left _ _ none)), eq-yes _ _ (not-no _ (or-no-right (not (eqb (bill .etii) 0)) _ none)))
+
+pub certificate-kept : (contract : Contract) (bill : Bill) → hasShares bill ≡ false → restCertificate contract bill ≡ contract .certificate
+unfolding restCertificate
+certificate-kept contract bill none = rw none
+
+pub set-aside : (contract : Contract) (bill : Bill) → hasShares bill ≡ true → restCertificate contract bill ≡ None
+unfolding restCertificate
+set-aside contract bill some = rw some
+
+-- ---- the shares have all of a bill's kWh
+
+pub shares-whole : (contract : Contract) (bill : Bill) → bill .etii + bill .qhs ≤ bill .kwh → total (λ s. s .kwh) (shares contract bill) ≡ bill .kwh
+unfolding shares
+shares-whole contract bill h = omega arith
+
+-- ---- a share of no kWh comes to nothing
+
+sum-none : (n : ℕ) (f : ℕ → ℕ) → ((j : ℕ) → f j ≡ 0) → sumOver n f ≡ 0
+sum-none zero f e = refl
+sum-none (suc n) f e = let h : f n ≡ 0 = e n in omega (arith, sum-none n f e)
+
+no-kwh : (price : Class → ℕ) (kind : Kind) (bill : Bill) (c : Certificate) (k : ℕ) → k ≡ 0 → shareAt price kind bill (share k c) ≡ 0
+unfolding shareAt byDay between inFirst
+no-kwh price kind bill c k e =
+    ap (λ (n : ℕ). shareAt price kind bill (share n c)) e ∙ sum-none (daysOf bill) _ (λ j. simp (zero-mul, zero-div))
+
+-- ---- a bill at a price of each class
+
+module _ (price : Class → ℕ) (contract : Contract) (bill : Bill) where
+  pub bill-without : hasShares bill ≡ false → billAt price contract bill ≡ shareAt price (contract .kind) bill (share (bill .kwh) (contract .certificate))
+  unfolding billAt shares
+  bill-without none =
+      let given = given-none bill none in
+      let whole : bill .kwh - (bill .etii + bill .qhs) ≡ bill .kwh = omega (arith, given .0, given .1) in
+      rw (whole, certificate-kept contract bill none)
+      (omega (arith, no-kwh price (contract .kind) bill (Etii 0) (bill .etii) (given .0), no-kwh price (contract .kind) bill (Qhs 0) (bill .qhs) (given .1)))
+
+  pub bill-with : hasShares bill ≡ true
+      → billAt price contract bill
+      ≡ shareAt price (contract .kind) bill (share (bill .kwh - (bill .etii + bill .qhs)) None)
+      + shareAt price (contract .kind) bill (share (bill .etii) (Etii 0))
+      + shareAt price (contract .kind) bill (share (bill .qhs) (Qhs 0))
+  unfolding billAt shares
+  bill-with some = rw (set-aside contract bill some) (omega arith)
+
+-- greater prices give more, and one price for every class gives kWh times it
+pub bill-le : (p q : Class → ℕ) (contract : Contract) (bill : Bill) → ((c : Class) → p c ≤ q c) → billAt p contract bill ≤ billAt q contract bill
+unfolding billAt shareAt
+bill-le p q contract bill l = total-le _ _ (λ s. by-day-le p q (s .kwh) (daysOf bill) _ l) (shares contract bill)
+
+pub bill-one-price : (p : ℕ) (contract : Contract) (bill : Bill) → bill .first ≤ bill .last → bill .etii + bill .qhs ≤ bill .kwh → billAt (λ c. p) contract bill ≡ bill .kwh * p
+unfolding billAt shareAt
+bill-one-price p contract bill days within =
+    total-cong _ (λ s. s .kwh * p) (λ s. one-price p (s .kwh) (daysOf bill) _ (omega arith)) (shares contract bill)
+    ∙ total-times (λ s. s .kwh) p (shares contract bill)
+    ∙ ap (λ (n : ℕ). n * p) (shares-whole contract bill within)

@@ -1,0 +1,21 @@
+-- `by_class` gives the kWh in each class of a bill with shares, or of one without.
+use mathlib.Core.Path.{sym, _∙_}
+use borrow.Author.Needs.{needs}
+use Rattle.amounts.proofs.by_class.Statement.{statement}
+use Rattle.amounts.proofs.by_class.Tie as tie
+
+shares-by-class-requires : tie.Need-shares-by-class-requires
+shares-by-class-requires c κs = (c .before .before .pre, sym (c .before .has-shares .ensures) ∙ c .if1 .taken)
+
+whole-by-class-requires : tie.Need-whole-by-class-requires
+whole-by-class-requires c κs = (c .before .before .pre, sym (c .before .has-shares .ensures) ∙ c .if1 .left)
+
+pub by-class-spec : {M : Type 1} → statement M
+by-class-spec =
+    tie.close
+    (tie.spec
+    (λ c κs. search needs)
+    shares-by-class-requires
+    (λ c. search needs)
+    whole-by-class-requires
+    (λ c. search needs))

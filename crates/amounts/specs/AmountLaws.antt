@@ -1,0 +1,96 @@
+-- Document 02, papers 1 and 3: what holds of every bill's amount and cap, at the price of each class that is its rate, or its cap. Assumes
+-- nothing.
+use mathlib.Core.Path.{_≡_}
+use mathlib.Core.List.{List}
+use Prim.Native.Nat.{ℕ, suc, _+_, _-_, _*_, _^_, _<_, _≤_}
+use lib.ListN.{length}
+use Rattle.limits.specs.Limits.{newMinimumDay}
+use Rattle.basics.specs.Lists.{total, All}
+use Rattle.rates.specs.declared.Kind.{Kind}
+use Rattle.rates.specs.declared.Certificate.{Certificate}
+use Rattle.rates.specs.declared.Certificate.the-variants.{None}
+use Rattle.rates.specs.declared.Certificate.the-variants as certificate
+use Rattle.rates.specs.declared.Contract.{Contract}
+use Rattle.rates.specs.declared.Class.{Class}
+use Rattle.rates.specs.declared.Class.the-variants.{Baseline, Etii}
+use Rattle.rates.specs.Rates.{classRate, classCap, qhsClass, certifiedClass, classOf}
+use Rattle.amounts.specs.declared.Bill.{Bill}
+use Rattle.amounts.specs.Days.{byDay}
+use Rattle.amounts.specs.Amounts.{daysOf, shares, billAt, rateOf, amount, cap, rate, Rateable}
+use Rattle.amounts.specs.Stretches.{Stretch, Cut, byStretch, stretchesOf}
+
+-- a bill at a price of each class, by the stretches of its shares
+abbrev pub byStretches : (price : Class → ℕ) → Contract → Bill → ℕ
+byStretches price contract bill =
+    total (λ s. byStretch price (s .kwh) (daysOf bill) 0 (stretchesOf (s .certificate) (contract .kind) (bill .first) (daysOf bill))) (shares contract bill)
+
+-- the day on which a certificate begins; 0, which follows no day, without one
+abbrev pub effectiveDay : Certificate → ℕ
+effectiveDay None = 0
+effectiveDay (certificate.Etii effective) = effective
+effectiveDay (certificate.Qhs effective) = effective
+
+-- a class stays the same from a bill's first day to its last
+abbrev pub NoChangeInside : (class : (day : ℕ) → Class) → Bill → Type 0
+NoChangeInside class bill = (day : ℕ) → bill .first ≤ day → day ≤ bill .last → class day ≡ class (bill .first)
+
+-- a bill's amount before paper 3: all of a share's kWh at the rate of its class on the first day
+unfoldable pub earlierAmount : Contract → Bill → ℕ
+earlierAmount contract bill = total (λ s. s .kwh * rateOf contract bill (certifiedClass (s .certificate) (contract .kind) (bill .first))) (shares contract bill)
+
+-- ---- paper 1
+
+pub record SharesRated : Type 0 where
+  -- a bill without shares is rated by its contract's certificate, and answers the rate of its first day
+  pub without : (price : Class → ℕ) (contract : Contract) (bill : Bill) → bill .etii ≡ 0 → bill .qhs ≡ 0
+      → billAt price contract bill ≡ byDay price (bill .kwh) (daysOf bill) (λ j. classOf contract (bill .first + j))
+  pub rate-without : (contract : Contract) (bill : Bill) → bill .etii ≡ 0 → bill .qhs ≡ 0
+      → rate contract bill ≡ classRate (contract .fuel) (classOf contract (bill .first)) (bill .reference) (bill .supply)
+  -- "If either is not 0, each share is rated by its class, the certificate is set aside": the rest and the ETII share have one class, and the QHS
+  -- share's minimum is that of the day; "the rate answered is the baseline one"
+  pub with-some : (price : Class → ℕ) (contract : Contract) (bill : Bill) → bill .first ≤ bill .last → 0 < bill .etii + bill .qhs
+      → billAt price contract bill
+      ≡ (bill .kwh - (bill .etii + bill .qhs)) * price Baseline
+      + bill .etii * price Etii
+      + byDay price (bill .qhs) (daysOf bill) (λ j. qhsClass (contract .kind) (bill .first + j))
+  pub rate-with : (contract : Contract) (bill : Bill) → 0 < bill .etii + bill .qhs → rate contract bill ≡ classRate (contract .fuel) Baseline (bill .reference) (bill .supply)
+  -- the shares of a bill are all of its kWh
+  pub whole : (contract : Contract) (bill : Bill) → bill .etii + bill .qhs ≤ bill .kwh → total (λ s. s .kwh) (shares contract bill) ≡ bill .kwh
+
+-- ---- paper 3
+
+pub record StretchesRated : Type 0 where
+  -- however days are cut into stretches of one class, the sum over stretches is the sum over days
+  pub any-cut : (price : Class → ℕ) (k n : ℕ) (class : ℕ → Class) (ss : List Stretch) → Cut n class 0 ss → byDay price k n class ≡ byStretch price k n 0 ss
+  -- a share's days are cut so into at most three; so "the amount is the sum over stretches", and the cap is
+  pub cut : (certificate : Certificate) (kind : Kind) (first n : ℕ) → Cut n (λ j. certifiedClass certificate kind (first + j)) 0 (stretchesOf certificate kind first n)
+  pub at-most-three : (certificate : Certificate) (kind : Kind) (first n : ℕ) → length (stretchesOf certificate kind first n) ≤ 3
+  pub summed : (price : Class → ℕ) (contract : Contract) (bill : Bill) → billAt price contract bill ≡ byStretches price contract bill
+  -- the class of a day is that of the day before, but on the certificate's effective day and on the day of the new minimum
+  pub changes : (certificate : Certificate) (kind : Kind) (day : ℕ) → (suc day ≡ effectiveDay certificate → ⊥) → (suc day ≡ newMinimumDay → ⊥)
+      → certifiedClass certificate kind (suc day) ≡ certifiedClass certificate kind day
+  -- the kWh of the stretches add up to the bill's
+  pub whole : (contract : Contract) (bill : Bill) → bill .first ≤ bill .last → bill .etii + bill .qhs ≤ bill .kwh → byStretches (λ class. 1) contract bill ≡ bill .kwh
+
+-- "Bills without a change inside keep their amounts"
+pub record WithoutChangeInside : Type 0 where
+  -- the amount is what it was before
+  pub as-before : (contract : Contract) (bill : Bill) → bill .first ≤ bill .last → All (λ s. NoChangeInside (certifiedClass (s .certificate) (contract .kind)) bill) (shares contract bill)
+      → amount contract bill ≡ earlierAmount contract bill
+  -- without shares it is kWh times the rate, and the cap kWh times that of the class
+  pub kept : (contract : Contract) (bill : Bill) → bill .first ≤ bill .last → bill .etii ≡ 0 → bill .qhs ≡ 0 → NoChangeInside (classOf contract) bill
+      → amount contract bill ≡ bill .kwh * rate contract bill
+  pub cap-kept : (contract : Contract) (bill : Bill) → bill .first ≤ bill .last → bill .etii ≡ 0 → bill .qhs ≡ 0 → NoChangeInside (classOf contract) bill
+      → cap contract bill ≡ bill .kwh * classCap (contract .fuel) (classOf contract (bill .first)) (bill .supply)
+  -- with shares it is, at any price of each class, the sum over the three
+  pub shares-kept : (price : Class → ℕ) (contract : Contract) (bill : Bill) → bill .first ≤ bill .last → 0 < bill .etii + bill .qhs → NoChangeInside (qhsClass (contract .kind)) bill
+      → billAt price contract bill
+      ≡ (bill .kwh - (bill .etii + bill .qhs)) * price Baseline
+      + bill .etii * price Etii
+      + bill .qhs * price (qhsClass (contract .kind) (bill .first))
+
+-- ---- the most that an amount can be
+
+pub record AmountsBounded : Type 0 where
+  pub capped : (contract : Contract) (bill : Bill) → amount contract bill ≤ cap contract bill
+  pub fifty-bits : (contract : Contract) (bill : Bill) → Rateable bill → amount contract bill < 2 ^ 50
