@@ -68,17 +68,17 @@ module _ (price : Class → ℕ) (kind : Kind) (bill : Bill) (k : ℕ) where
         + withNewMinimum kind bill k e * price class.QhsNew
     share-qhs e = either (enteredEarly kind)
         (λ t.
-          let old : k - kwhBefore bill k e ≡ k - kwhBefore bill k e - 0 = omega arith in
-          share-stretches (Qhs e) ∙ rw (t, between-first, between-last _ _ _ some-days) (omega (arith, ap (λ (n : ℕ). n * price class.QhsOld) old)))
+        let old : k - kwhBefore bill k e ≡ k - kwhBefore bill k e - 0 = omega arith in
+        share-stretches (Qhs e) ∙ rw (t, between-first, between-last _ _ _ some-days) (omega (arith, ap (λ (n : ℕ). n * price class.QhsOld) old)))
         (λ t.
-          let new : ℕ = kwhBefore bill k (max e newMinimumDay) in
-          let old : new - kwhBefore bill k e ≡ k - kwhBefore bill k e - (k - new) = omega (
-            arith,
-            before-most k (daysOf bill) (bill .first) (max e newMinimumDay) some-days,
-            before-grows k (daysOf bill) (bill .first) e (max e newMinimumDay) (omega arith),
-          ) in
-          share-stretches (Qhs e)
-          ∙ rw (t, between-first, between-last _ _ _ some-days, between-ends) (omega (arith, ap (λ (n : ℕ). n * price class.QhsOld) old)))
+        let new : ℕ = kwhBefore bill k (max e newMinimumDay) in
+        let old : new - kwhBefore bill k e ≡ k - kwhBefore bill k e - (k - new) = omega (
+          arith,
+          before-most k (daysOf bill) (bill .first) (max e newMinimumDay) some-days,
+          before-grows k (daysOf bill) (bill .first) e (max e newMinimumDay) (omega arith),
+        ) in
+        share-stretches (Qhs e)
+        ∙ rw (t, between-first, between-last _ _ _ some-days, between-ends) (omega (arith, ap (λ (n : ℕ). n * price class.QhsOld) old)))
 
 -- ---- what the code finds: without shares by the certificate, and with shares
 

@@ -1,11 +1,11 @@
 // A bill's row among the held rows: added, put in place of another, or removed, with what the call answers.
+use amounts::Bill;
+use amounts::amount;
+use amounts::rate;
 use ledger::rows::row_at;
 use model::Answer;
 use model::Row;
-use amounts::Bill;
 use rates::Contract;
-use amounts::amount;
-use amounts::rate;
 use signed::difference;
 ghost use Rattle.layout.specs.Present.{facts};
 ghost use Rattle.bill_calls.specs.Rows.{NewRow, RowAgain, RowHeld, Changed, billed, rowAdded, rebilled, rowReplaced, cancelled, rowRemoved};

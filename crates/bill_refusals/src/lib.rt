@@ -1,11 +1,11 @@
 // What turns a bill or a rebill down: its request, and then its row among the held rows.
+use amounts::Bill;
 use ledger::contracts::contract_at;
 use ledger::contracts::refused_contract;
 use ledger::rows::RowTest;
 use ledger::rows::find_row;
 use limits::ROW_COUNT;
 use model::Request;
-use amounts::Bill;
 use rates::Contract;
 use rules::book::bad_book;
 use rules::book::bill_under;

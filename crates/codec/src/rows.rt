@@ -1,7 +1,7 @@
 // A row in its bytes.
+use amounts::Bill;
 use layout::ROW_LENGTH;
 use model::Row;
-use amounts::Bill;
 use records::numbers::get_window;
 use records::numbers::put_all;
 ghost use mathlib.Core.Path.{_≡_};

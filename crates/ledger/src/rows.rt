@@ -1,8 +1,8 @@
 // Rows by their place, and the first row that passes a test.
+use amounts::Bill;
 use layout::FIRST_ROW;
 use layout::ROW_LENGTH;
 use model::Row;
-use amounts::Bill;
 ghost use mathlib.Core.Path.{_≡_};
 ghost use Prim.Native.Nat.{_<_};
 ghost use lib.ListN.{length};

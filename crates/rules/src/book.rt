@@ -1,10 +1,10 @@
 // The price book: its test, a contract's reference price, and the bill with that price.
 use crate::codes;
+use amounts::Bill;
 use limits::BOOK_LENGTH;
 use limits::DAY_COUNT;
 use limits::HIGHEST_PRICE;
 use model::Request;
-use amounts::Bill;
 use rates::Contract;
 use rates::Fuel;
 use rates::Kind;

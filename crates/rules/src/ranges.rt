@@ -1,6 +1,7 @@
 // The ranges of document 01 and of papers 1 and 2: the tests of what a call gives, and of what a well-formed ledger holds.
 use crate::book::no_price;
 use crate::codes;
+use amounts::Bill;
 use limits::FIRST_QHS_DAY;
 use limits::FIRST_SCHEME_DAY;
 use limits::HIGHEST_PRICE;
@@ -8,7 +9,6 @@ use limits::LAST_DAY;
 use limits::MOST_KWH_GIVEN;
 use limits::MOST_KWH_STORED;
 use model::Request;
-use amounts::Bill;
 use rates::Contract;
 use rates::Kind;
 ghost use mathlib.Core.Path.{_≡_};
