@@ -149,17 +149,6 @@ fn shares_by_class(contract: Contract, bill: Bill) -> KwhByClass
     }
 }
 
-// A bill's kWh in each class.
-fn by_class(contract: Contract, bill: Bill) -> KwhByClass
-    requires { ⌜ Rateable bill ⌝ }
-    ensures { λ r. ⌜ KwhOf contract bill r ⌝ }
-{
-    if has_shares(bill) {
-        return shares_by_class(contract, bill);
-    }
-    whole_by_class(contract, bill)
-}
-
 // So many kWh of a bill at the rate of a class; none ask for no rate.
 fn at_rate(fuel: Fuel, bill: Bill, class: Class, kwh: u64) -> u64
     requires { ⌜ (kwh ≤ mostKwhStored) × (bill .supply ≤ highestPrice) ⌝ }
@@ -189,7 +178,10 @@ pub fn amount(contract: Contract, bill: Bill) -> u64
     requires { ⌜ Rateable bill ⌝ }
     ensures { λ r. ⌜ r ≡ amount contract bill ⌝ }
 {
-    at_rates(contract, bill, by_class(contract, bill))
+    if has_shares(bill) {
+        return at_rates(contract, bill, shares_by_class(contract, bill));
+    }
+    at_rates(contract, bill, whole_by_class(contract, bill))
 }
 
 // Whether a bill's amount is the one given. The check asks it of every row and is its one caller: LLVM inlines a function with one caller
@@ -198,5 +190,8 @@ pub fn is_amount(contract: Contract, bill: Bill, given: u64) -> bool
     requires { ⌜ Rateable bill ⌝ }
     ensures { λ r. ⌜ r ≡ eqb given (amount contract bill) ⌝ }
 {
-    given == at_rates(contract, bill, by_class(contract, bill))
+    if has_shares(bill) {
+        return given == at_rates(contract, bill, shares_by_class(contract, bill));
+    }
+    given == at_rates(contract, bill, whole_by_class(contract, bill))
 }
