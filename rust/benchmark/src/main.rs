@@ -61,7 +61,7 @@ fn name_with_answer(name: &str, answer: Answer) -> String {
 }
 
 fn print_calls_on_changes(book: &[u32]) {
-    println!("The same on ledgers of 64 contracts with 2 or 16 rows each, of 20 days. A row has a change inside where a certificate takes effect or the new QHS minimum begins on a day after its first: so at most 2 rows of a contract have one. They are counted as the call leaves them. A bill, a rebill and a certificate are of one QHS contract, both of whose rows have a change inside, the one billed among them, where any row has.");
+    println!("The same on ledgers of 64 contracts with 2 or 16 rows each, of 20 days. A row has a change inside where a certificate takes effect or the new QHS minimum begins on a day after its first: so at most 2 rows of a contract have one. They are counted as the call leaves them. A bill, a rebill and a certificate are of one QHS contract, two of whose rows have a change inside, the one billed among them, where any row has.");
     println!();
     println!("| call | rows held | with a change inside | proved | spread | twin | spread | proved / twin |");
     println!("|---|---:|---:|---:|---:|---:|---:|---:|");
