@@ -1,8 +1,8 @@
 //! The calls that are measured, each as the proved call and as the twin's.
 
+use crate::both_ledgers::NORTHERN_IRELAND;
 use crate::ledgers::{
     bill_numbers, CLOSED_CONTRACT, FIRST_DAY, FREE_DAY, LARGE_CONTRACT, MIDDLE_CONTRACT,
-    NORTHERN_IRELAND,
 };
 
 /// What a call answers: its numbers, or the number that turns it down.
@@ -97,7 +97,8 @@ pub fn proved_bill(ledger: &mut [u8], book: &[u32], numbers: twin::BillNumbers) 
     proved(ebds::calls::bill(ledger, book, proved_numbers(numbers)))
 }
 
-fn proved_rebill(ledger: &mut [u8], book: &[u32], numbers: twin::BillNumbers) -> Answer {
+/// The proved rebill.
+pub fn proved_rebill(ledger: &mut [u8], book: &[u32], numbers: twin::BillNumbers) -> Answer {
     proved(ebds::calls::rebill(ledger, book, proved_numbers(numbers)))
 }
 

@@ -1,11 +1,8 @@
 //! The ledgers that calls are measured on: 63 open contracts of every fuel, kind and class, with as
-//! many rows as asked for, every fourth of a contract's with shares. The twin builds them, and the
-//! proved calls must leave the same bytes.
+//! many rows as asked for, every fourth of a contract's with shares. A row has one day, so that no
+//! change is inside it.
 
-use crate::calls::{proved, proved_bill, Answer};
-
-/// A territory in which every kind of contract may be opened.
-pub const NORTHERN_IRELAND: u32 = 1;
+use crate::both_ledgers::BothLedgers;
 
 /// The contract with a quarter of the rows: fixed, electricity, without a certificate.
 pub const LARGE_CONTRACT: u32 = 0;
@@ -32,10 +29,10 @@ const DAYS_APART: u32 = 25;
 const DAYS_BETWEEN_SHARES: u32 = 4;
 
 /// Document 01's code of fixed contracts.
-const FIXED: u32 = 0;
+pub const FIXED: u32 = 0;
 
 /// Document 01's code of flexible contracts.
-const FLEXIBLE: u32 = 2;
+pub const FLEXIBLE: u32 = 2;
 
 /// Document 01's code of index contracts.
 const INDEX: u32 = 3;
@@ -47,9 +44,9 @@ pub fn book() -> Vec<u32> {
 
 /// A ledger with that many rows.
 pub fn ledger(rows: usize, book: &[u32]) -> Vec<u8> {
-    let mut ledgers = Ledgers::start();
+    let mut ledgers = BothLedgers::start();
     for contract in 0..CLOSED_CONTRACT {
-        ledgers.open(contract);
+        open(&mut ledgers, contract);
     }
     let rows = rows as u32;
     let large = rows / 4;
@@ -62,7 +59,20 @@ pub fn ledger(rows: usize, book: &[u32]) -> Vec<u8> {
         let day = FIRST_DAY + row / small_contracts * DAYS_APART;
         ledgers.bill(book, bill_numbers(contract, day));
     }
-    ledgers.twin
+    ledgers.bytes()
+}
+
+/// Opens a contract, with its certificate.
+fn open(ledgers: &mut BothLedgers, contract: u32) {
+    let kind = kind(contract);
+    // A fixed contract's price-fix day and day of entry.
+    let days = match kind {
+        FIXED => 14 * contract,
+        _ => 0,
+    };
+    ledgers.open(contract, fuel(contract), kind, days, days);
+    let (class, day) = certificate(contract);
+    ledgers.cert(contract, class, day);
 }
 
 /// The numbers of a contract's bill for one day.
@@ -95,12 +105,12 @@ fn shares(day: u32, kwh: u32) -> (u32, u32) {
 
 /// A price for a place in the book or ledger, from below the lowest support price to above the
 /// highest.
-fn reference_price(place: u32) -> u32 {
+pub fn reference_price(place: u32) -> u32 {
     varied(place, 9_000, 30_000)
 }
 
 /// A number for a place in the book or ledger, from `least` on and below `least + range`.
-fn varied(place: u32, least: u32, range: u32) -> u32 {
+pub fn varied(place: u32, least: u32, range: u32) -> u32 {
     least + place.wrapping_mul(2_654_435_769) % range
 }
 
@@ -122,64 +132,5 @@ fn certificate(contract: u32) -> (u32, u32) {
     match contract % 3 {
         0 => (0, 0),
         class => (class, FIRST_DAY),
-    }
-}
-
-/// A ledger that the proved calls make, and the one that the twin makes.
-struct Ledgers {
-    proved: Vec<u8>,
-    twin: Vec<u8>,
-}
-
-impl Ledgers {
-    fn start() -> Ledgers {
-        let bytes = vec![0; ebds::LEDGER_LENGTH];
-        let mut ledgers = Ledgers {
-            proved: bytes.clone(),
-            twin: bytes,
-        };
-        ledgers.call(
-            |ledger| proved(ebds::calls::start(ledger, NORTHERN_IRELAND)),
-            |ledger| twin::start(ledger, NORTHERN_IRELAND),
-        );
-        ledgers
-    }
-
-    /// Opens a contract, with its certificate.
-    fn open(&mut self, contract: u32) {
-        let (fuel, kind) = (fuel(contract), kind(contract));
-        // A fixed contract's price-fix day and day of entry.
-        let days = match kind {
-            FIXED => 14 * contract,
-            _ => 0,
-        };
-        self.call(
-            |ledger| proved(ebds::calls::open(ledger, contract, fuel, kind, days, days)),
-            |ledger| twin::open(ledger, contract, fuel, kind, days, days),
-        );
-        let (class, day) = certificate(contract);
-        self.call(
-            |ledger| proved(ebds::calls::cert(ledger, contract, class, day)),
-            |ledger| twin::cert(ledger, contract, class, day),
-        );
-    }
-
-    fn bill(&mut self, book: &[u32], numbers: twin::BillNumbers) {
-        self.call(
-            |ledger| proved_bill(ledger, book, numbers),
-            |ledger| twin::bill(ledger, book, numbers),
-        );
-    }
-
-    /// Makes a call on both, which must be accepted and leave the same.
-    fn call(
-        &mut self,
-        proved: impl FnOnce(&mut [u8]) -> Answer,
-        twin: impl FnOnce(&mut [u8]) -> Answer,
-    ) {
-        let answer = twin(&mut self.twin);
-        assert!(answer.is_ok(), "the call is accepted: {answer:?}");
-        assert_eq!(proved(&mut self.proved), answer, "the same answer");
-        assert!(self.proved == self.twin, "the same bytes");
     }
 }

@@ -1,40 +1,44 @@
-//! Prints the times of the proved calls beside those of the twin, and the program's beside the
-//! calculator's, as tables in Markdown.
+//! Prints the times of the proved calls beside those of the twin, what a change inside a bill adds
+//! to them, and the program's times beside the calculator's, as tables in Markdown.
 
+mod batches;
+mod both_ledgers;
 mod calls;
+mod calls_on_changes;
+mod changes;
 mod ledgers;
 mod sessions;
 mod timing;
 
-use std::hint::black_box;
-use std::time::{Duration, Instant};
-
-use calls::{Answer, Call, Case, CASES};
-use timing::Comparison;
-
-/// How many calls a batch times.
-const BATCH: usize = 16;
-
-/// How many batches of the proved call are timed, and as many of the twin's.
-const BATCHES: usize = 400;
+use batches::{answer_of_both, compare_calls, compare_ledgers, BATCH, BATCHES};
+use calls::{Answer, Case, CASES};
+use calls_on_changes::{total, CallOnChanges, CALLS_ON_CHANGES};
+use changes::{Contents, CONTENTS};
 
 const NANOSECONDS_PER_MILLISECOND: f64 = 1e6;
 
+/// The fewest rows with a change inside of which the cost is told.
+const FEWEST_CHANGES: usize = 64;
+
 fn main() {
-    print_calls();
+    let book = ledgers::book();
+    print_calls(&book);
+    println!();
+    print_calls_on_changes(&book);
+    println!();
+    print_costs_of_changes(&book);
     println!();
     print_sessions();
 }
 
-fn print_calls() {
+fn print_calls(book: &[u32]) {
     println!("Nanoseconds of a call: the median of {BATCHES} batches of {BATCH} calls, a batch of proved calls and one of the twin's in turn. The spread is the distance of the quartiles in percent of the median; the ratio is the median of the turns' ratios.");
     println!();
     println!("| call | rows held | proved | spread | twin | spread | proved / twin |");
     println!("|---|---:|---:|---:|---:|---:|---:|");
-    let book = ledgers::book();
     for case in &CASES {
         for rows in case.rows {
-            print_call(case, rows, &book);
+            print_call(case, rows, book);
         }
     }
 }
@@ -42,38 +46,72 @@ fn print_calls() {
 /// Measures a call on a ledger with that many rows.
 fn print_call(case: &Case, rows: usize, book: &[u32]) {
     let ledger = ledgers::ledger(rows, book);
-    let name = match answer_of_both(case, &ledger, book) {
-        Ok(_) => case.name.to_string(),
-        Err(number) => format!("{}, refused {number}", case.name),
-    };
-    let mut copies = vec![ledger.clone(); BATCH];
-    let times = Comparison::of(BATCHES, [case.proved, case.twin], |call| {
-        time_batch(call, &ledger, book, &mut copies)
-    });
+    let calls = [case.proved, case.twin];
+    let name = name_with_answer(case.name, answer_of_both(calls, &ledger, book));
+    let times = compare_calls(calls, &ledger, book);
     println!("| {name} | {rows} | {} |", times.columns(BATCH as f64, 0));
 }
 
-/// The answer, after which the proved call and the twin's must have left the same bytes.
-fn answer_of_both(case: &Case, ledger: &[u8], book: &[u32]) -> Answer {
-    let mut proved = ledger.to_vec();
-    let mut twin = ledger.to_vec();
-    let answer = (case.twin)(&mut twin, book);
-    assert_eq!((case.proved)(&mut proved, book), answer, "the same answer");
-    assert!(proved == twin, "the same bytes");
-    answer
+/// A call's name, with the number where it is turned down.
+fn name_with_answer(name: &str, answer: Answer) -> String {
+    match answer {
+        Ok(_) => name.to_string(),
+        Err(number) => format!("{name}, refused {number}"),
+    }
 }
 
-/// The time of a call on each copy of the ledger. Most calls change the ledger; so the copies are
-/// made anew before the clock starts, and what is timed is calls alone.
-fn time_batch(call: Call, ledger: &[u8], book: &[u32], copies: &mut [Vec<u8>]) -> Duration {
-    for copy in copies.iter_mut() {
-        copy.copy_from_slice(ledger);
+fn print_calls_on_changes(book: &[u32]) {
+    println!("The same on ledgers of 64 contracts with 2 or 16 rows each, of 20 days. A row has a change inside where a certificate takes effect or the new QHS minimum begins on a day after its first: so at most 2 rows of a contract have one. They are counted as the call leaves them. A bill, a rebill and a certificate are of one QHS contract, two of whose rows have a change inside, the one billed among them, where any row has.");
+    println!();
+    println!("| call | rows held | with a change inside | proved | spread | twin | spread | proved / twin |");
+    println!("|---|---:|---:|---:|---:|---:|---:|---:|");
+    for call in CALLS_ON_CHANGES {
+        for contents in CONTENTS {
+            print_call_on_changes(call(contents, book), contents, book);
+        }
     }
-    let began = Instant::now();
-    for copy in copies {
-        let _ = black_box(call(black_box(copy), black_box(book)));
+}
+
+/// Measures a call that leaves a ledger with those contents.
+fn print_call_on_changes(call: CallOnChanges, contents: Contents, book: &[u32]) {
+    let calls = [&*call.proved, &*call.twin];
+    let name = name_with_answer(call.name, answer_of_both(calls, &call.ledger, book));
+    let times = compare_calls(calls, &call.ledger, book);
+    println!(
+        "| {name} | {} | {} | {} |",
+        call.rows,
+        contents.rows_with_change(),
+        times.columns(BATCH as f64, 0)
+    );
+}
+
+fn print_costs_of_changes(book: &[u32]) {
+    println!("Nanoseconds that a change inside adds to the check of a row: total on a ledger with such rows less total on the same ledger without, a batch of each in turn, over the number of such rows.");
+    println!();
+    println!("| rows held | with a change inside | proved | twin |");
+    println!("|---:|---:|---:|---:|");
+    for contents in CONTENTS {
+        if contents.rows_with_change() >= FEWEST_CHANGES {
+            print_cost_of_changes(contents, book);
+        }
     }
-    began.elapsed()
+}
+
+/// Measures total on a ledger with those contents beside one without changes inside.
+fn print_cost_of_changes(contents: Contents, book: &[u32]) {
+    let with = total(contents, book);
+    let without = total(contents.without_changes(), book);
+    let rows_with_change = contents.rows_with_change();
+    let cost = |call| {
+        let times = compare_ledgers(call, [&without.ledger, &with.ledger], book);
+        times.difference() / (BATCH * rows_with_change) as f64
+    };
+    println!(
+        "| {} | {rows_with_change} | {:.1} | {:.1} |",
+        with.rows,
+        cost(&*with.proved),
+        cost(&*with.twin)
+    );
 }
 
 fn print_sessions() {

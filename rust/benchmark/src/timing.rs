@@ -36,6 +36,11 @@ impl Comparison {
         }
     }
 
+    /// The nanoseconds by which the second's median is above the first's.
+    pub fn difference(&self) -> f64 {
+        self.second.median - self.first.median
+    }
+
     /// Five columns of a Markdown table: the median and spread of the first, those of the second,
     /// and the ratio. The medians are in a unit of so many nanoseconds.
     pub fn columns(&self, unit: f64, decimals: usize) -> String {

@@ -1,9 +1,10 @@
-//! The calls of document 01, with papers 1 and 2 of document 02, hand-written in Rust on the same
+//! The calls of document 01, with papers 1 to 3 of document 02, hand-written in Rust on the same
 //! packed bytes: what the times of the proved calls are measured against.
 //!
 //! Each call answers three numbers in document 01's order, unused ones 0, or the number that
 //! turns it down; it then changes no byte.
 
+mod amounts;
 mod bills;
 mod calendar;
 mod check;

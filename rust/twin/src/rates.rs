@@ -1,9 +1,6 @@
-//! The rates and amounts of bills (document 01, section "Prices per kWh"; document 02, paper 1).
+//! The rates of the classes of a bill's energy (document 01, section "Prices per kWh").
 
-use crate::contracts::{Certificate, Contract, Fuel, Kind};
-
-/// The day from which the new QHS minimum applies, 1 February 2024.
-const NEW_MINIMUM_DAY: u32 = 792;
+use crate::contracts::{Contract, Fuel};
 
 /// The constants of a fuel, in mils. A support price is the minimum too.
 struct Prices {
@@ -58,44 +55,18 @@ impl Bill {
     }
 }
 
-/// The class by which energy is rated.
-enum Class {
+/// The class by which energy is rated, with the QHS minimum in mils that applies.
+#[derive(Clone, Copy)]
+pub enum Class {
     Baseline,
     Etii,
-    Qhs,
+    Qhs { minimum: i64 },
 }
 
 impl Contract {
-    /// The rate in ticks that is answered for a bill: that of the kWh in neither share.
-    #[inline]
-    pub fn rate(&self, bill: &Bill) -> i64 {
-        self.class_rate(self.class(bill), bill)
-    }
-
-    /// The amount in ticks of a bill: the sum over the two shares and the rest.
-    #[inline]
-    pub fn amount(&self, bill: &Bill) -> i64 {
-        let rest = bill.rest() * self.rate(bill);
-        if !bill.has_shares() {
-            return rest;
-        }
-        rest + bill.etii_share * self.class_rate(Class::Etii, bill)
-            + bill.qhs_share * self.class_rate(Class::Qhs, bill)
-    }
-
-    /// The class of the kWh in neither share: baseline beside a share, or else the class that the
-    /// contract's certificate gives.
-    fn class(&self, bill: &Bill) -> Class {
-        match self.certificate {
-            _ if bill.has_shares() => Class::Baseline,
-            Certificate::Etii { effective_day } if effective_day <= bill.first => Class::Etii,
-            Certificate::Qhs { effective_day } if effective_day <= bill.first => Class::Qhs,
-            _ => Class::Baseline,
-        }
-    }
-
     /// The rate in ticks of a bill's energy of a class.
-    fn class_rate(&self, class: Class, bill: &Bill) -> i64 {
+    #[inline]
+    pub fn class_rate(&self, class: Class, bill: &Bill) -> i64 {
         let (reference, supply) = (bill.reference, bill.supply);
         let prices = self.prices();
         match class {
@@ -104,11 +75,21 @@ impl Contract {
                 3 * prices.baseline_part(reference, supply)
                     + 7 * prices.etii_part(reference, supply)
             }
-            Class::Qhs => {
-                10 * (supply - self.qhs_minimum(bill.first))
-                    .min(reference)
-                    .max(0)
-            }
+            Class::Qhs { minimum } => 10 * (supply - minimum).min(reference).max(0),
+        }
+    }
+
+    /// The QHS class with the old minimum.
+    pub fn qhs_old(&self) -> Class {
+        Class::Qhs {
+            minimum: self.prices().qhs_minimum_old,
+        }
+    }
+
+    /// The QHS class with the new minimum.
+    pub fn qhs_new(&self) -> Class {
+        Class::Qhs {
+            minimum: self.prices().qhs_minimum_new,
         }
     }
 
@@ -117,17 +98,6 @@ impl Contract {
         match self.fuel {
             Fuel::Electricity => &ELECTRICITY,
             Fuel::Gas => &GAS,
-        }
-    }
-
-    /// The QHS minimum that applies to a bill with that first day.
-    fn qhs_minimum(&self, first: u32) -> i64 {
-        let entered_early =
-            matches!(self.kind, Kind::Fixed { entry_day, .. } if entry_day < NEW_MINIMUM_DAY);
-        if first < NEW_MINIMUM_DAY || entered_early {
-            self.prices().qhs_minimum_old
-        } else {
-            self.prices().qhs_minimum_new
         }
     }
 }
