@@ -2,7 +2,7 @@
  * The calls of the discount ledger of the Energy Bills Discount Scheme, for C and C++.
  *
  * The calls, their numbers, answers and refusals are those of document 01, "The discount ledger of
- * the Energy Bills Discount Scheme", with papers 1 and 2 of document 02, "Later changes to the
+ * the Energy Bills Discount Scheme", with papers 1 to 3 of document 02, "Later changes to the
  * base". The library is target/staticlib/libebds_c.a, which the command `rt staticlib ebds_c`
  * proves and builds. It keeps nothing between calls and allocates nothing.
  *
@@ -16,7 +16,8 @@
  *   A packed ledger is EBDS_LEDGER_LENGTH bytes. A call takes bytes of any length and any contents
  *   and gives 2 where they aren't a well-formed ledger. It may be copied, stored and sent as bytes.
  *   It may hold rows of variable and index contracts across two months or more, from before number
- *   15 came: they stand with the price that they hold, and take certificates and cancellation.
+ *   15 came: they stand with the price that they hold, and take certificates and cancellation. One
+ *   stored before bills were rated by day is well formed where its amounts are those by day.
  *
  * The price book
  *   EBDS_BOOK_LENGTH prices in mils (thousandths of a penny per kWh), 0 meaning not published. Fixed
@@ -57,12 +58,19 @@
  *   mils. Rates and amounts are in ticks, ten-thousandths of a penny. A row is a bill that stands;
  *   due is the sum of the amounts of the rows.
  *
+ * Rating by day
+ *   A bill of n days has floor(kWh * j / n) kWh in its first j days. Each day's kWh are rated as in a
+ *   bill that starts on that day, at the bill's one R: by the certificate from its effective day on,
+ *   and for QHS with the new minimum from day 792 on, unless the contract is fixed and was entered
+ *   before. The amount is the sum over the days. The rate answered is that of the first day; it may
+ *   be 0 where the amount isn't.
+ *
  * Shares
  *   Where a landlord's meter serves ETII and QHS tenants beside others, a bill says how many of its
  *   kWh are in the ETII share (`etii_share`) and in the QHS share (`qhs_share`). If either isn't 0,
  *   each share is rated by its class and the rest of the kWh as baseline, whatever the contract's
- *   certificate says; the amount is the sum over the three, and the rate answered is the baseline
- *   one. If both are 0, the certificate applies.
+ *   certificate says, each spread over the days by itself; the amount is the sum over the three, and
+ *   the rate answered is the baseline one. If both are 0, the certificate applies.
  */
 #ifndef EBDS_H
 #define EBDS_H
@@ -109,9 +117,9 @@ uint32_t ebds_rebill(uint8_t *ledger, size_t ledger_length, const uint32_t *book
                      uint32_t qhs_share, int64_t *answer);
 
 /*
- * cert: replaces the contract's certificate and re-rates its rows; a row with a share that isn't 0
- * keeps its amount. The effective day is 486 to 851, 511 to 851 for QHS, and 0 for class 0, which
- * takes the certificate away. Answers the net change of due and the count of rows whose amount
+ * cert: replaces the contract's certificate and re-rates its rows, by day; a row with a share that
+ * isn't 0 keeps its amount. The effective day is 486 to 851, 511 to 851 for QHS, and 0 for class 0,
+ * which takes the certificate away. Answers the net change of due and the count of rows whose amount
  * changed.
  */
 uint32_t ebds_cert(uint8_t *ledger, size_t ledger_length, uint32_t contract,

@@ -43,7 +43,7 @@ pub enum Certificate {
     },
 }
 
-/// What a bill answers: R in mils, the rate and the amount in ticks.
+/// What a bill answers: R in mils, the rate of its first day and the amount in ticks.
 #[derive(Clone, Copy, Debug, PartialEq, Eq)]
 pub struct Billed {
     pub reference: i64,
@@ -51,7 +51,8 @@ pub struct Billed {
     pub amount: i64,
 }
 
-/// What a rebill answers: R in mils, the rate, and the new amount minus the old in ticks.
+/// What a rebill answers: R in mils, the rate of its first day, and the new amount minus the old
+/// in ticks.
 #[derive(Clone, Copy, Debug, PartialEq, Eq)]
 pub struct Rebilled {
     pub reference: i64,
@@ -172,7 +173,8 @@ impl Ledger {
         })
     }
 
-    /// Replaces the contract's certificate and re-rates its rows; one with shares keeps its amount.
+    /// Replaces the contract's certificate and re-rates its rows by day; one with shares keeps its
+    /// amount.
     pub fn cert(&mut self, contract: u32, certificate: Certificate) -> Result<Certified, Refusal> {
         let (class, effective_day) = match certificate {
             Certificate::None => (0, 0),
