@@ -1,9 +1,13 @@
 -- The laws of every bill's amount and cap: over shares, over stretches, without a change inside, and their bounds. Assumes nothing.
-use mathlib.Core.Path.{_≡_, refl, sym, _∙_}
-use Prim.Native.Nat.{ℕ, _+_, _-_, _*_, _<_, _≤_, zero-le}
+use mathlib.Core.Path.{_≡_, refl, sym, subst, _∙_}
+use Prim.Native.Nat.{ℕ, zero, suc, _+_, _-_, _*_, _<_, _≤_, zero-le}
+use native.Mathlib.Nat.{add-zero, add-suc}
 use native.Mathlib.Omega.{arith}
+use Rattle.limits.specs.Limits.{newMinimumDay}
 use Rattle.basics.specs.Lists.{All}
 use Rattle.basics.proofs.Lists.{all-map, total-all, total-cong}
+use Rattle.rates.specs.declared.Kind.{Kind}
+use Rattle.rates.specs.declared.Certificate.{Certificate}
 use Rattle.rates.specs.declared.Contract.{Contract}
 use Rattle.rates.specs.declared.Class.{Class}
 use Rattle.rates.specs.declared.Class.the-variants.{Baseline, Etii}
@@ -11,7 +15,7 @@ use Rattle.rates.specs.Rates.{classRate, classCap, qhsClass, certifiedClass, cl
 use Rattle.amounts.specs.declared.Bill.{Bill}
 use Rattle.amounts.specs.Days.{byDay}
 use Rattle.amounts.specs.Amounts.{daysOf, shares, shareAt, billAt, rateOf, capOf, amount, cap, rate}
-use Rattle.amounts.specs.AmountLaws.{byStretches, NoChangeInside, earlierAmount, SharesRated, StretchesRated, WithoutChangeInside, AmountsBounded}
+use Rattle.amounts.specs.AmountLaws.{byStretches, effectiveDay, NoChangeInside, earlierAmount, SharesRated, StretchesRated, WithoutChangeInside, AmountsBounded}
 use Rattle.amounts.proofs.Days.{by-day-cong}
 use Rattle.amounts.proofs.Stretches.{sum-over-stretches, one-class}
 use Rattle.amounts.proofs.Certificates.{etii-from, qhs-from, changes, at-most-three, cut}
@@ -22,17 +26,17 @@ use Rattle.amounts.proofs.AmountBounds.{amount-capped, amount-bits}
 -- ---- shares
 
 module _ (price : Class → ℕ) (contract : Contract) (bill : Bill) where
-  without : bill .etii ≡ 0 → bill .qhs ≡ 0 → billAt price contract bill ≡ byDay price (bill .kwh) (daysOf bill) (λ j. classOf contract (bill .first + j))
+  without-shares : bill .etii ≡ 0 → bill .qhs ≡ 0 → billAt price contract bill ≡ byDay price (bill .kwh) (daysOf bill) (λ j. classOf contract (bill .first + j))
   unfolding shareAt classOf
-  without etii qhs = bill-without price contract bill (none-given bill etii qhs)
+  without-shares etii qhs = bill-without price contract bill (none-given bill etii qhs)
 
-  with-some : bill .first ≤ bill .last → 0 < bill .etii + bill .qhs
+  with-shares : bill .first ≤ bill .last → 0 < bill .etii + bill .qhs
       → billAt price contract bill
       ≡ (bill .kwh - (bill .etii + bill .qhs)) * price Baseline
       + bill .etii * price Etii
       + byDay price (bill .qhs) (daysOf bill) (λ j. qhsClass (contract .kind) (bill .first + j))
   unfolding shareAt
-  with-some days some =
+  with-shares days some =
       let n : 0 < daysOf bill = omega arith in
       bill-with price contract bill (some-given bill some)
       ∙ omega (
@@ -52,7 +56,7 @@ unfolding rate
 rate-with contract bill some = rw (set-aside contract bill (some-given bill some))
 
 pub shares-rated : SharesRated
-shares-rated = record { without = without; rate-without = rate-without; with-some = with-some; rate-with = rate-with; whole = shares-whole }
+shares-rated = record { without-shares = without-shares; rate-without = rate-without; with-shares = with-shares; rate-with = rate-with; whole = shares-whole }
 
 -- ---- stretches
 
@@ -78,14 +82,29 @@ module _ (price : Class → ℕ) (contract : Contract) (bill : Bill) (days : bil
   one k class same = one-class price k (daysOf bill) (λ j. class (bill .first + j)) (class (bill .first)) (omega arith) (λ j h. same (bill .first + j) (omega arith) (omega arith))
 
   priced : bill .etii ≡ 0 → bill .qhs ≡ 0 → NoChangeInside (classOf contract) bill → billAt price contract bill ≡ bill .kwh * price (classOf contract (bill .first))
-  priced etii qhs same = without price contract bill etii qhs ∙ one (bill .kwh) (classOf contract) same
+  priced etii qhs same = without-shares price contract bill etii qhs ∙ one (bill .kwh) (classOf contract) same
 
   shares-kept : 0 < bill .etii + bill .qhs → NoChangeInside (qhsClass (contract .kind)) bill
       → billAt price contract bill
       ≡ (bill .kwh - (bill .etii + bill .qhs)) * price Baseline
       + bill .etii * price Etii
       + bill .qhs * price (qhsClass (contract .kind) (bill .first))
-  shares-kept some same = with-some price contract bill days some ∙ omega (arith, one (bill .qhs) (qhsClass (contract .kind)) same)
+  shares-kept some same = with-shares price contract bill days some ∙ omega (arith, one (bill .qhs) (qhsClass (contract .kind)) same)
+
+no-day-inside : (certificate : Certificate) (kind : Kind) (bill : Bill) → (bill .first < effectiveDay certificate → bill .last < effectiveDay certificate)
+    → (bill .first < newMinimumDay → bill .last < newMinimumDay) → NoChangeInside (certifiedClass certificate kind) bill
+no-day-inside certificate kind bill effective new day from to =
+    subst (λ (d : ℕ). certifiedClass certificate kind d ≡ certifiedClass certificate kind (bill .first)) (omega arith) (after (day - bill .first) (omega arith))
+  where
+    -- a day of the bill after its first is no day that doesn't lie inside
+    other : (d m : ℕ) → (bill .first < d → bill .last < d) → bill .first + suc m ≤ bill .last → suc (bill .first + m) ≡ d → ⊥
+    other d m outside h e = let l : bill .last < d = outside (omega arith) in omega arith
+
+    after : (m : ℕ) → bill .first + m ≤ bill .last → certifiedClass certificate kind (bill .first + m) ≡ certifiedClass certificate kind (bill .first)
+    after zero h = rw add-zero
+    after (suc m) h =
+        rw add-suc
+        (changes certificate kind (bill .first + m) (other (effectiveDay certificate) m effective h) (other newMinimumDay m new h) ∙ after m (omega arith))
 
 as-before : (contract : Contract) (bill : Bill) → bill .first ≤ bill .last → All (λ s. NoChangeInside (certifiedClass (s .certificate) (contract .kind)) bill) (shares contract bill)
     → amount contract bill ≡ earlierAmount contract bill
@@ -97,6 +116,7 @@ as-before contract bill days same =
 pub without-change-inside : WithoutChangeInside
 unfolding amount cap
 without-change-inside = record {
+  no-day-inside = no-day-inside;
   as-before = as-before;
   kept = λ contract bill days etii qhs same. rw (rate-without contract bill etii qhs) (priced (rateOf contract bill) contract bill days etii qhs same);
   cap-kept = λ contract bill days etii qhs same. priced (capOf contract bill) contract bill days etii qhs same;

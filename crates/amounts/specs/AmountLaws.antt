@@ -1,5 +1,5 @@
--- Document 02, papers 1 and 3: what holds of every bill's amount and cap, at the price of each class that is its rate, or its cap. Assumes
--- nothing.
+-- Document 02, papers 1 and 3: what holds of every bill's amount and cap, which are the bill at a price of each class (`billAt`): its rate, or
+-- its cap. Assumes nothing.
 use mathlib.Core.Path.{_≡_}
 use mathlib.Core.List.{List}
 use Prim.Native.Nat.{ℕ, suc, _+_, _-_, _*_, _^_, _<_, _≤_}
@@ -42,13 +42,13 @@ earlierAmount contract bill = total (λ s. s .kwh * rateOf contract bill (certif
 
 pub record SharesRated : Type 0 where
   -- a bill without shares is rated by its contract's certificate, and answers the rate of its first day
-  pub without : (price : Class → ℕ) (contract : Contract) (bill : Bill) → bill .etii ≡ 0 → bill .qhs ≡ 0
+  pub without-shares : (price : Class → ℕ) (contract : Contract) (bill : Bill) → bill .etii ≡ 0 → bill .qhs ≡ 0
       → billAt price contract bill ≡ byDay price (bill .kwh) (daysOf bill) (λ j. classOf contract (bill .first + j))
   pub rate-without : (contract : Contract) (bill : Bill) → bill .etii ≡ 0 → bill .qhs ≡ 0
       → rate contract bill ≡ classRate (contract .fuel) (classOf contract (bill .first)) (bill .reference) (bill .supply)
   -- "If either is not 0, each share is rated by its class, the certificate is set aside": the rest and the ETII share have one class, and the QHS
   -- share's minimum is that of the day; "the rate answered is the baseline one"
-  pub with-some : (price : Class → ℕ) (contract : Contract) (bill : Bill) → bill .first ≤ bill .last → 0 < bill .etii + bill .qhs
+  pub with-shares : (price : Class → ℕ) (contract : Contract) (bill : Bill) → bill .first ≤ bill .last → 0 < bill .etii + bill .qhs
       → billAt price contract bill
       ≡ (bill .kwh - (bill .etii + bill .qhs)) * price Baseline
       + bill .etii * price Etii
@@ -74,15 +74,18 @@ pub record StretchesRated : Type 0 where
 
 -- "Bills without a change inside keep their amounts"
 pub record WithoutChangeInside : Type 0 where
-  -- the amount is what it was before
+  -- there is none where neither the effective day nor the day of the new minimum lies after the first day and not after the last
+  pub no-day-inside : (certificate : Certificate) (kind : Kind) (bill : Bill) → (bill .first < effectiveDay certificate → bill .last < effectiveDay certificate)
+      → (bill .first < newMinimumDay → bill .last < newMinimumDay) → NoChangeInside (certifiedClass certificate kind) bill
+  -- then the amount is what it was before
   pub as-before : (contract : Contract) (bill : Bill) → bill .first ≤ bill .last → All (λ s. NoChangeInside (certifiedClass (s .certificate) (contract .kind)) bill) (shares contract bill)
       → amount contract bill ≡ earlierAmount contract bill
-  -- without shares it is kWh times the rate, and the cap kWh times that of the class
+  -- without shares that is kWh times the rate answered, and the cap is kWh times that of the class
   pub kept : (contract : Contract) (bill : Bill) → bill .first ≤ bill .last → bill .etii ≡ 0 → bill .qhs ≡ 0 → NoChangeInside (classOf contract) bill
       → amount contract bill ≡ bill .kwh * rate contract bill
   pub cap-kept : (contract : Contract) (bill : Bill) → bill .first ≤ bill .last → bill .etii ≡ 0 → bill .qhs ≡ 0 → NoChangeInside (classOf contract) bill
       → cap contract bill ≡ bill .kwh * classCap (contract .fuel) (classOf contract (bill .first)) (bill .supply)
-  -- with shares it is, at any price of each class, the sum over the three
+  -- with shares it is the sum over the three, at any price of each class
   pub shares-kept : (price : Class → ℕ) (contract : Contract) (bill : Bill) → bill .first ≤ bill .last → 0 < bill .etii + bill .qhs → NoChangeInside (qhsClass (contract .kind)) bill
       → billAt price contract bill
       ≡ (bill .kwh - (bill .etii + bill .qhs)) * price Baseline
