@@ -11,7 +11,7 @@ use Rattle.rates.specs.declared.Certificate.{Certificate}
 use Rattle.rates.specs.declared.Contract.{Contract}
 use Rattle.rates.specs.declared.Class.{Class}
 use Rattle.rates.specs.declared.Class.the-variants.{Baseline, Etii}
-use Rattle.rates.specs.Rates.{classRate, classCap, qhsClass, certifiedClass, classOf}
+use Rattle.rates.specs.Rates.{classRate, qhsClass, certifiedClass, classOf}
 use Rattle.amounts.specs.declared.Bill.{Bill}
 use Rattle.amounts.specs.Days.{byDay}
 use Rattle.amounts.specs.Amounts.{daysOf, shares, shareAt, billAt, rateOf, capOf, amount, cap, rate}
@@ -20,7 +20,7 @@ use Rattle.amounts.proofs.Days.{by-day-cong}
 use Rattle.amounts.proofs.Stretches.{sum-over-stretches, one-class}
 use Rattle.amounts.proofs.Certificates.{etii-from, qhs-from, changes, at-most-three, cut}
 use Rattle.amounts.proofs.Shares.{none-given, some-given, certificate-kept, set-aside, shares-whole, bill-without, bill-with, bill-one-price}
-use Rattle.amounts.proofs.KwhFound.{share-none, share-stretches}
+use Rattle.amounts.proofs.KwhFound.{share-stretches}
 use Rattle.amounts.proofs.AmountBounds.{amount-capped, amount-bits}
 
 -- ---- shares

@@ -21,10 +21,10 @@ use Rattle.amounts.specs.KwhFound.{kwhBefore, withNewMinimum, KwhOf}
 use Rattle.amounts.proofs.Days.{between-ends, between-first, between-last, in-first-all, before-first, before-most, before-grows}
 use Rattle.amounts.proofs.Stretches.{sum-over-stretches}
 use Rattle.amounts.proofs.Certificates.{cut}
-use Rattle.amounts.proofs.Shares.{bill-without, bill-with, bill-one-price}
+use Rattle.amounts.proofs.Shares.{bill-without, bill-with}
 
 -- the kWh with the new minimum, and those before the day, are no more than there are
-pub new-most : (kind : Kind) (bill : Bill) (k day : ℕ) → bill .first ≤ bill .last → kwhBefore bill k day + withNewMinimum kind bill k day ≤ k
+new-most : (kind : Kind) (bill : Bill) (k day : ℕ) → bill .first ≤ bill .last → kwhBefore bill k day + withNewMinimum kind bill k day ≤ k
 new-most kind bill k day days = either (enteredEarly kind)
     (λ t. rw t (omega (arith, before-most k (daysOf bill) (bill .first) day (omega arith))))
     (λ t. rw t (omega (
@@ -55,13 +55,13 @@ module _ (price : Class → ℕ) (kind : Kind) (bill : Bill) (k : ℕ) where
     some-days : 0 < daysOf bill
     some-days = omega arith
 
-    pub share-none : shareAt price kind bill (share k None) ≡ k * price class.Baseline
+    share-none : shareAt price kind bill (share k None) ≡ k * price class.Baseline
     share-none = share-stretches None ∙ rw (between-first, in-first-all k (daysOf bill) some-days) (omega arith)
 
-    pub share-etii : (e : ℕ) → shareAt price kind bill (share k (Etii e)) ≡ kwhBefore bill k e * price class.Baseline + (k - kwhBefore bill k e) * price class.Etii
+    share-etii : (e : ℕ) → shareAt price kind bill (share k (Etii e)) ≡ kwhBefore bill k e * price class.Baseline + (k - kwhBefore bill k e) * price class.Etii
     share-etii e = share-stretches (Etii e) ∙ rw (between-first, between-last _ _ _ some-days) (omega arith)
 
-    pub share-qhs : (e : ℕ)
+    share-qhs : (e : ℕ)
         → shareAt price kind bill (share k (Qhs e))
         ≡ kwhBefore bill k e * price class.Baseline
         + (k - kwhBefore bill k e - withNewMinimum kind bill k e) * price class.QhsOld
