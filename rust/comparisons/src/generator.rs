@@ -207,7 +207,7 @@ fn rebill(random: &mut Random, facts: &Facts) -> Call {
     let (first, last) = if random.once_in(OTHER_SPAN_ONCE_IN) {
         any_span(random, MOST_DAYS)
     } else {
-        row.span()
+        row.bill.span()
     };
     let last = match random.below(4) {
         0 => random.within(first..=LAST_DAY),
@@ -223,7 +223,7 @@ fn rebill_of_same_span(random: &mut Random, facts: &Facts) -> Call {
     let Some(row) = held_row(random, facts) else {
         return bill(random, facts);
     };
-    Call::Rebill(bill_numbers(random, facts, row.contract, row.span()))
+    Call::Rebill(bill_numbers(random, facts, row.contract, row.bill.span()))
 }
 
 /// The certificate starts with a row of the contract or a day later, mostly.
@@ -402,7 +402,7 @@ fn free_span(random: &mut Random, facts: &Facts, contract: u32, most_days: u32) 
     let mut span = draw();
     for _ in 0..6 {
         let mut rows = facts.rows.iter().filter(|row| row.contract == contract);
-        if !rows.any(|row| spans_share_a_day(row.span(), span)) {
+        if !rows.any(|row| spans_share_a_day(row.bill.span(), span)) {
             break;
         }
         span = draw();
