@@ -61,6 +61,8 @@ fn compare_history(findings: &mut Findings, seed: u64, number: u64) {
             after: &left,
         };
         count_call(&mut findings.rows_across_months, &made);
+        let changes = &mut findings.library.changes;
+        changes.count_call(call.name(), &facts, &left);
         facts = left;
     }
 }
