@@ -30,17 +30,9 @@ pub struct Facts {
 #[derive(Clone, Copy, Debug, PartialEq, Eq)]
 pub struct Row {
     pub contract: u32,
-    pub last_day: u32,
     pub bill: Bill,
     /// The bill's amount in ticks.
     pub amount: i64,
-}
-
-impl Row {
-    /// The first and the last day.
-    pub fn span(&self) -> (u32, u32) {
-        (self.bill.first_day, self.last_day)
-    }
 }
 
 impl Facts {

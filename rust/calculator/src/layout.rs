@@ -184,7 +184,7 @@ impl RowNumbers {
             held: true,
             contract: row.contract,
             first_day: row.bill.first_day,
-            last_day: row.last_day,
+            last_day: row.bill.last_day,
             kwh: number(row.bill.kwh),
             etii_share: number(row.bill.etii_share),
             qhs_share: number(row.bill.qhs_share),
@@ -199,9 +199,9 @@ impl RowNumbers {
     pub(crate) fn row(&self) -> Row {
         Row {
             contract: self.contract,
-            last_day: self.last_day,
             bill: Bill {
                 first_day: self.first_day,
+                last_day: self.last_day,
                 kwh: self.kwh.into(),
                 etii_share: self.etii_share.into(),
                 qhs_share: self.qhs_share.into(),

@@ -1,7 +1,7 @@
 //! The old posting module: it writes each bill, reversal and reissue as a signed posting and
 //! adds the postings up. It answers the calls of document 01, section "Calls", and refuses
 //! by numbers 3 to 13 of the section "Turned down, in checking order" and numbers 14 and 15
-//! of document 02, papers 1 and 2.
+//! of document 02, papers 1 and 2. Amounts are those of its paper 3.
 
 use crate::book;
 use crate::calls::{BillNumbers, Call, Outcome};
@@ -138,7 +138,7 @@ impl PostingModule {
         let reference_price = reference_price(book, &contract, numbers)?;
         refuse_if(self.bills.len() >= MOST_ROWS, ROWS_FULL)?;
         let bill = bill_of(numbers, reference_price);
-        let amount = self.issue(&contract, numbers.contract, numbers.last, bill);
+        let amount = self.issue(&contract, numbers.contract, bill);
         let rate = rates::rate(&contract, &bill);
         Ok(vec![reference_price.into(), rate, amount])
     }
@@ -150,7 +150,7 @@ impl PostingModule {
         let reference_price = reference_price(book, &contract, numbers)?;
         let bill = bill_of(numbers, reference_price);
         let reversed = self.reverse(&old);
-        let reissued = self.issue(&contract, numbers.contract, numbers.last, bill);
+        let reissued = self.issue(&contract, numbers.contract, bill);
         let rate = rates::rate(&contract, &bill);
         Ok(vec![reference_price.into(), rate, reversed + reissued])
     }
@@ -168,7 +168,7 @@ impl PostingModule {
         let (mut net_change, mut changed) = (0, 0);
         for row in bills {
             let reversed = self.reverse(&row);
-            let reissued = self.issue(&contract, number, row.last_day, row.bill);
+            let reissued = self.issue(&contract, number, row.bill);
             net_change += reversed + reissued;
             changed += i64::from(reversed + reissued != 0);
         }
@@ -212,10 +212,9 @@ impl PostingModule {
     }
 
     /// Writes the posting of a bill, which stands from now on, and gives its amount.
-    fn issue(&mut self, contract: &Contract, number: u32, last_day: u32, bill: Bill) -> i64 {
+    fn issue(&mut self, contract: &Contract, number: u32, bill: Bill) -> i64 {
         let row = Row {
             contract: number,
-            last_day,
             bill,
             amount: rates::amount(contract, &bill),
         };
@@ -271,7 +270,7 @@ impl PostingModule {
     fn shares_a_day(&self, numbers: BillNumbers, replaced: Option<&Row>) -> bool {
         self.bills_of(numbers.contract)
             .filter(|&row| Some(row) != replaced)
-            .any(|row| spans_share_a_day(row.span(), (numbers.first, numbers.last)))
+            .any(|row| spans_share_a_day(row.bill.span(), (numbers.first, numbers.last)))
     }
 
     /// The contract's bills.
@@ -310,6 +309,7 @@ fn reference_price(book: &[u32], contract: &Contract, numbers: BillNumbers) -> R
 fn bill_of(numbers: BillNumbers, reference_price: u32) -> Bill {
     Bill {
         first_day: numbers.first,
+        last_day: numbers.last,
         kwh: numbers.kwh.into(),
         etii_share: numbers.etii_share.into(),
         qhs_share: numbers.qhs_share.into(),

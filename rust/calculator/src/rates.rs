@@ -1,5 +1,6 @@
 //! Discount rates of the scheme: Regulation 29's formula and the guidance's parameters.
-//! Bills with an ETII or a QHS share follow document 02, paper 1.
+//! Bills with an ETII or a QHS share follow document 02, paper 1, and amounts are taken by
+//! day, as in its paper 3.
 //!
 //! Prices are in mils, thousandths of a penny per kWh; rates are in ticks, ten-thousandths
 //! of a penny per kWh (document 01, section "Prices per kWh"). Supply prices and reference
@@ -58,6 +59,7 @@ pub struct Contract {
 #[derive(Clone, Copy, Debug, Default, PartialEq, Eq)]
 pub struct Bill {
     pub first_day: u32,
+    pub last_day: u32,
     pub kwh: i64,
     /// The kWh that a landlord passes on to ETII tenants.
     pub etii_share: i64,
@@ -70,6 +72,11 @@ pub struct Bill {
 }
 
 impl Bill {
+    /// The first and the last day.
+    pub fn span(&self) -> (u32, u32) {
+        (self.first_day, self.last_day)
+    }
+
     /// Whether either share isn't 0.
     pub fn has_shares(&self) -> bool {
         self.etii_share != 0 || self.qhs_share != 0
@@ -109,9 +116,9 @@ const QHS_SUPPORT_PRICE: i64 = 0;
 /// examples of section 3.4 write it as infinity.
 const NO_MAXIMUM_DISCOUNT: i64 = i64::MAX;
 
-/// The class of a bill: that of the certificate if the bill's first day is on or after the
-/// effective day, "the date from which the Customer is eligible" (guidance, section 1.4);
-/// baseline otherwise.
+/// The class of a bill that starts on the day: that of the certificate if the day is on or
+/// after the effective day, "the date from which the Customer is eligible" (guidance,
+/// section 1.4); baseline otherwise.
 pub fn class_of_bill(certificate: Certificate, first_day: u32) -> Class {
     match certificate {
         Certificate::Etii { effective_day } if first_day >= effective_day => Class::Etii,
@@ -120,8 +127,9 @@ pub fn class_of_bill(certificate: Certificate, first_day: u32) -> Class {
     }
 }
 
-/// The class of a bill's rest, the kWh in neither share: baseline where a share isn't 0, for
-/// the certificate is set aside; otherwise the bill's class.
+/// The class of a bill's rest, the kWh in neither share, on its first day: baseline where a
+/// share isn't 0, for the certificate is set aside; otherwise the class of a bill that starts
+/// on that day.
 fn class_of_rest(contract: &Contract, bill: &Bill) -> Class {
     if bill.has_shares() {
         Class::Baseline
@@ -130,40 +138,64 @@ fn class_of_rest(contract: &Contract, bill: &Bill) -> Class {
     }
 }
 
-/// The rate of a bill in ticks: that of its rest.
+/// The rate of a bill in ticks: that of its rest on the first day.
 pub fn rate(contract: &Contract, bill: &Bill) -> i64 {
     class_rate(class_of_rest(contract, bill), contract, bill)
 }
 
-/// The amount of a bill in ten-thousandths of a penny: kWh times rate, over the three
-/// shares. Without shares the one rate "applies to all Customer consumption" of the billing
-/// period (guidance, section 3.4, examples).
+/// The amount of a bill in ten-thousandths of a penny: kWh times rate, over its days and its
+/// three shares. Enhanced support is applied from the certificate's effective day (guidance,
+/// section 1.4), inside a bill too.
 pub fn amount(contract: &Contract, bill: &Bill) -> i64 {
-    sum_over_shares(class_rate, contract, bill)
+    sum_over_days(class_rate, contract, bill)
 }
 
-/// The cap of a bill in ten-thousandths of a penny: kWh times the class's cap, over the
-/// three shares.
+/// The cap of a bill in ten-thousandths of a penny: kWh times the class's cap, over its days
+/// and its three shares.
 pub fn cap(contract: &Contract, bill: &Bill) -> i64 {
-    sum_over_shares(class_cap, contract, bill)
+    sum_over_days(class_cap, contract, bill)
 }
 
-/// The sum, over a bill's three shares, of kWh times what the class has for a kWh.
-fn sum_over_shares(
-    for_a_kwh: fn(Class, &Contract, &Bill) -> i64,
-    contract: &Contract,
-    bill: &Bill,
-) -> i64 {
+/// What a class has for a kWh of a bill.
+type ForAKwh = fn(Class, &Contract, &Bill) -> i64;
+
+/// The sum, over a bill's days, of the day's kWh times what there is for a kWh on that day.
+/// The paper sums over stretches of days with one class and one QHS minimum; their kWh are
+/// those of their days.
+fn sum_over_days(for_a_kwh: ForAKwh, contract: &Contract, bill: &Bill) -> i64 {
+    (bill.first_day..=bill.last_day)
+        .map(|day| sum_over_shares(for_a_kwh, contract, bill, day))
+        .sum()
+}
+
+/// The sum, over a bill's three shares, of their kWh on one of its days times what their
+/// class has for a kWh. "A day's class and QHS minimum are those of a bill starting on that
+/// day" (document 02, paper 3).
+fn sum_over_shares(for_a_kwh: ForAKwh, contract: &Contract, bill: &Bill, day: u32) -> i64 {
+    let starting_on_that_day = Bill {
+        first_day: day,
+        ..*bill
+    };
     let rest = bill.kwh - bill.etii_share - bill.qhs_share;
     let shares = [
         (bill.etii_share, Class::Etii),
         (bill.qhs_share, Class::Qhs),
-        (rest, class_of_rest(contract, bill)),
+        (rest, class_of_rest(contract, &starting_on_that_day)),
     ];
-    let shares = shares.into_iter();
-    shares
-        .map(|(kwh, class)| kwh * for_a_kwh(class, contract, bill))
-        .sum()
+    let amounts = shares.map(|(kwh, class)| {
+        kwh_on_day(kwh, bill, day) * for_a_kwh(class, contract, &starting_on_that_day)
+    });
+    amounts.iter().sum()
+}
+
+/// The kWh of a share on one of its bill's days. "A bill of n days and k kWh has
+/// floor(k × j / n) kWh in its first j days", and the shares "are each spread this way"
+/// (document 02, paper 3).
+fn kwh_on_day(kwh: i64, bill: &Bill, day: u32) -> i64 {
+    let days = i64::from(bill.last_day - bill.first_day) + 1;
+    let days_before = i64::from(day - bill.first_day);
+    let kwh_in_first = |count: i64| kwh * count / days;
+    kwh_in_first(days_before + 1) - kwh_in_first(days_before)
 }
 
 /// The rate of a class in ticks (guidance, section 3.4, "Calculation of Discount" for
@@ -255,10 +287,10 @@ fn qhs_parameters(contract: &Contract, first_day: u32) -> Parameters {
     }
 }
 
-/// Whether the new QHS minimum applies: to energy supplied on or after 1 February 2024, but
-/// not under a fixed contract entered into before that day (guidance, section 3.1, "Minimum
-/// Supply Price"). Document 01 takes a bill's energy by the bill's first day.
-fn new_qhs_minimum_applies(kind: Kind, first_day: u32) -> bool {
+/// Whether the new QHS minimum applies to a bill that starts on the day: to energy supplied
+/// on or after 1 February 2024, but not under a fixed contract entered into before that day
+/// (guidance, section 3.1, "Minimum Supply Price").
+pub fn new_qhs_minimum_applies(kind: Kind, first_day: u32) -> bool {
     let keeps_old_minimum = match kind {
         Kind::Fixed { entry_day, .. } => entry_day < NEW_QHS_MINIMUM_DAY,
         Kind::Variable | Kind::Flexible | Kind::DayAheadIndex => false,

@@ -3,6 +3,7 @@
 use crate::book::BOOK_ENTRIES;
 use crate::calls::{self, Call, Outcome};
 use crate::codes::{Territory, HIGHEST_PRICE};
+use crate::facts::Facts;
 use crate::postings::PostingModule;
 use crate::refusals::{refuse_if, NUMBER_OUT_OF_RANGE, UNREADABLE_LINE};
 
@@ -23,17 +24,14 @@ enum Command {
 }
 
 /// The ledger and the book of a run of the program.
-struct Session {
+pub struct Session {
     module: PostingModule,
     book: Vec<u32>,
 }
 
 /// The whole output of the program for an input.
 pub fn transcript(input: &[u8]) -> Vec<u8> {
-    let mut session = Session {
-        module: PostingModule::new(Territory::GreatBritain),
-        book: vec![0; BOOK_ENTRIES],
-    };
+    let mut session = Session::fresh();
     let mut output = Vec::new();
     if input.len() > INPUT_BYTES {
         print(&mut output, &Err(UNREADABLE_LINE));
@@ -58,8 +56,21 @@ fn print(output: &mut Vec<u8>, outcome: &Outcome) {
 }
 
 impl Session {
+    /// A run before its first line: a fresh Great Britain ledger and a book of zeros.
+    pub fn fresh() -> Session {
+        Session {
+            module: PostingModule::new(Territory::GreatBritain),
+            book: vec![0; BOOK_ENTRIES],
+        }
+    }
+
+    /// The facts that the ledger holds.
+    pub fn facts(&self) -> Facts {
+        self.module.facts()
+    }
+
     /// The outcome of a line, its line feed included.
-    fn reply(&mut self, line: &[u8]) -> Outcome {
+    pub fn reply(&mut self, line: &[u8]) -> Outcome {
         match read_line(line).ok_or(UNREADABLE_LINE)? {
             Command::Price { index, value } => self.set_price(index, value),
             Command::Day { year, month, day } => calls::day(year, month, day),

@@ -1,6 +1,6 @@
 //! The well-formed ledgers: one function for each clause of document 01, section "The packed
-//! ledger", paragraph "Well formed", and of document 02, paper 1. The clause on the length
-//! stands with `packed::unpack`.
+//! ledger", paragraph "Well formed", and of document 02, papers 1 and 3. The clause on the
+//! length stands with `packed::unpack`.
 
 use crate::codes::{
     contract_days_in_range, effective_day_in_range, kind_in_its_place, shares_exceed_kwh,
@@ -24,7 +24,7 @@ pub(crate) fn is_well_formed(ledger: &LedgerNumbers) -> bool {
         && shares_of_held_rows_do_not_exceed_kwh(ledger)
         && contracts_of_held_rows_are_open(ledger)
         && reference_price_is_0_only_for_flexible(ledger)
-        && amounts_are_kwh_times_rate(ledger)
+        && amounts_are_kwh_times_rate_by_day(ledger)
         && held_rows_come_first(ledger)
         && held_rows_ascend(ledger)
         && no_two_rows_of_a_contract_share_a_day(ledger)
@@ -99,8 +99,8 @@ fn reference_price_is_0_only_for_flexible(ledger: &LedgerNumbers) -> bool {
     rows.all(|row| row.reference_price != 0 || flexible(row))
 }
 
-/// Summed over the three shares.
-fn amounts_are_kwh_times_rate(ledger: &LedgerNumbers) -> bool {
+/// Summed over the days and the three shares.
+fn amounts_are_kwh_times_rate_by_day(ledger: &LedgerNumbers) -> bool {
     let is_kwh_times_rate = |numbers: &RowNumbers| {
         let row = numbers.row();
         contract_of(ledger, numbers)

@@ -9,6 +9,9 @@ use calculator::rates::{
 const ETII: Certificate = Certificate::Etii { effective_day: 486 };
 const QHS: Certificate = Certificate::Qhs { effective_day: 511 };
 
+/// A certificate that begins inside the longest of the `bills_at`.
+const QHS_FROM_791: Certificate = Certificate::Qhs { effective_day: 791 };
+
 /// The old and the new QHS minimum supply price of each fuel.
 const QHS_MINIMUM_PRICES: [(Fuel, i64, i64); 2] = [
     (Fuel::Electricity, 34_000, 28_240),
@@ -31,6 +34,7 @@ fn cap_of(fuel: Fuel, certificate: Certificate, supply_price: i64) -> i64 {
     };
     let bill = Bill {
         first_day: 600,
+        last_day: 600,
         kwh: 1,
         reference_price: 0,
         supply_price,
@@ -49,6 +53,7 @@ fn qhs_minimum_price(fuel: Fuel, kind: Kind, first_day: u32) -> i64 {
     let earns_a_discount = |supply_price: &i64| {
         let bill = Bill {
             first_day,
+            last_day: first_day,
             kwh: 1,
             reference_price: 999_999,
             supply_price: *supply_price,
@@ -88,6 +93,7 @@ fn a_bill_before_the_effective_day_has_the_baseline_rate_and_cap() {
         };
         let bill = Bill {
             first_day: 599,
+            last_day: 599,
             kwh: 1,
             reference_price: 31_980,
             supply_price: 67_030,
@@ -147,6 +153,7 @@ fn baseline_and_etii_discounts_start_above_their_prices() {
         let rate_at = |reference_price, supply_price| {
             let bill = Bill {
                 first_day: 600,
+                last_day: 600,
                 kwh: 1,
                 reference_price,
                 supply_price,
@@ -177,7 +184,7 @@ fn caps_are_document_01_numbers() {
 /// A flexible contract of each fuel with each certificate.
 fn flexible_contracts() -> impl Iterator<Item = Contract> {
     [Fuel::Electricity, Fuel::Gas].into_iter().flat_map(|fuel| {
-        [Certificate::None, ETII, QHS].map(|certificate| Contract {
+        [Certificate::None, ETII, QHS, QHS_FROM_791].map(|certificate| Contract {
             fuel,
             kind: Kind::Flexible,
             certificate,
@@ -185,13 +192,15 @@ fn flexible_contracts() -> impl Iterator<Item = Contract> {
     })
 }
 
-/// Bills of 1,000 kWh with and without shares, before and after the change of the QHS
-/// minimum.
+/// Bills of 1,000 kWh with and without shares, before the change of the QHS minimum, after
+/// it and across it.
 fn bills_at(reference_price: i64, supply_price: i64) -> impl Iterator<Item = Bill> {
-    [791, 792].into_iter().flat_map(move |first_day| {
+    let spans = [(791, 791), (792, 792), (790, 793)];
+    spans.into_iter().flat_map(move |(first_day, last_day)| {
         let shares = [(0, 0), (300, 0), (0, 200), (300, 200), (400, 600)];
         shares.map(|(etii_share, qhs_share)| Bill {
             first_day,
+            last_day,
             kwh: 1_000,
             etii_share,
             qhs_share,

@@ -9,6 +9,9 @@ use calculator::rates::{amount, rate, Bill, Certificate, Contract, Fuel, Kind};
 const SCHEME_START_DAY: u32 = 486;
 const SCHEME_INTRODUCTION_DAY: u32 = 511;
 
+/// The last day of April 2023, the billing period of the examples that name one.
+const END_OF_APRIL: u32 = 515;
+
 const ETII_FROM_START: Certificate = Certificate::Etii {
     effective_day: SCHEME_START_DAY,
 };
@@ -42,6 +45,7 @@ fn fixed_price_contract_baseline_support() {
     };
     let bill = Bill {
         first_day: SCHEME_START_DAY,
+        last_day: END_OF_APRIL,
         kwh: 1,
         reference_price: 43_810,
         supply_price: 91_200,
@@ -62,6 +66,7 @@ fn fixed_price_contract_etii_support() {
     };
     let bill = Bill {
         first_day: SCHEME_START_DAY,
+        last_day: END_OF_APRIL,
         kwh: 4_041,
         reference_price: 32_330,
         supply_price: 61_200,
@@ -77,9 +82,10 @@ fn fixed_price_contract_etii_support() {
 }
 
 /// Section 3.4, "Fixed price contract example – QHS support": 3.8p/kWh and £9,280.36 for
-/// 244,220 kWh. The example discounts all of April 2023; a bill that starts before the
-/// certificate's effective day, 26 April 2023 at the earliest, is baseline and gets nothing
-/// at this reference wholesale price.
+/// 244,220 kWh. The example discounts all of April 2023. A certificate is effective from
+/// 26 April 2023 at the earliest, and the baseline class gets nothing at this reference
+/// wholesale price: of a bill of April's 30 days, the first 25 have floor(244,220 × 25 / 30) =
+/// 203,516 kWh, and the last 5 the other 40,704, which get 3.8p.
 #[test]
 fn fixed_price_contract_qhs_support() {
     let contract = Contract {
@@ -89,6 +95,7 @@ fn fixed_price_contract_qhs_support() {
     };
     let bill = Bill {
         first_day: SCHEME_INTRODUCTION_DAY,
+        last_day: END_OF_APRIL,
         kwh: 244_220,
         reference_price: 7_610,
         supply_price: 11_630,
@@ -101,6 +108,7 @@ fn fixed_price_contract_qhs_support() {
         ..bill
     };
     assert_eq!(rate(&contract, &from_start), 0);
+    assert_eq!(amount(&contract, &from_start), 1_546_752_000);
 }
 
 /// Section 3.4, "Variable Price contract example – QHS support": 3.50p/kWh, with the
@@ -114,6 +122,7 @@ fn variable_price_contract_qhs_support() {
     };
     let bill = Bill {
         first_day: day_number(2024, 2, 1).expect("the day is in the range"),
+        last_day: day_number(2024, 2, 29).expect("the day is in the range"),
         kwh: 1,
         reference_price: 4_200,
         supply_price: 10_000,
@@ -136,6 +145,7 @@ fn variable_price_contract_baseline_support() {
         for supply_price in [33_730, 40_000, 999_999] {
             let bill = Bill {
                 first_day: SCHEME_START_DAY,
+                last_day: END_OF_APRIL,
                 kwh: 1,
                 reference_price,
                 supply_price,
@@ -156,6 +166,7 @@ fn flexible_price_contract_baseline_support() {
     };
     let bill = Bill {
         first_day: SCHEME_START_DAY,
+        last_day: END_OF_APRIL,
         kwh: 1,
         reference_price: 31_980,
         supply_price: 67_030,
@@ -175,6 +186,7 @@ fn flexible_price_contract_etii_support() {
     };
     let bill = Bill {
         first_day: SCHEME_START_DAY,
+        last_day: END_OF_APRIL,
         kwh: 1,
         reference_price: 35_000,
         supply_price: 58_330,
@@ -197,6 +209,7 @@ fn blend_and_extend_lowers_only_the_supply_price() {
     for (supply_price, expected) in [(60_000, 19_610), (29_000, 0), (31_200, 10_000)] {
         let bill = Bill {
             first_day: day_number(2023, 6, 1).expect("the day is in the range"),
+            last_day: day_number(2023, 6, 30).expect("the day is in the range"),
             kwh: 1,
             reference_price: 43_810,
             supply_price,
@@ -226,6 +239,7 @@ fn intermediary_discount_apportionment() {
         };
         let bill = Bill {
             first_day: SCHEME_INTRODUCTION_DAY,
+            last_day: END_OF_APRIL,
             kwh,
             reference_price: 11_170,
             supply_price: 15_190,
@@ -250,6 +264,7 @@ fn intermediary_discount_on_one_bill() {
     };
     let bill = Bill {
         first_day: SCHEME_INTRODUCTION_DAY,
+        last_day: END_OF_APRIL,
         kwh: 3_235_000,
         etii_share: 1_294_000,
         qhs_share: 1_132_250,

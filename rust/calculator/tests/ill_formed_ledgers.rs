@@ -1,5 +1,5 @@
 //! Ledgers that break one clause of document 01's paragraph "Well formed" or of document 02,
-//! paper 1, each, beside neighbours that keep it.
+//! papers 1 and 3, each, beside neighbours that keep it.
 
 mod common;
 mod paper_run;
@@ -299,6 +299,67 @@ fn the_amount_is_kwh_times_rate() {
     let certificate_starts = |day| is_well_formed(|ledger| ledger.contracts[0].effective_day = day);
     assert!(certificate_starts(486));
     assert!(!certificate_starts(487));
+}
+
+/// Row 0 has 30 days, 486 to 515, and row 1 has 31, 516 to 546, of 1,000 kWh each. A kWh has
+/// 17,800 ticks in the baseline class and 67,640 in ETII. Where the certificate starts on day
+/// 496, row 0 has floor(1,000 × 10 / 30) = 333 kWh before it, and 667 from it on; from day 546
+/// on, row 1 has floor(1,000 × 30 / 31) = 967 kWh before it, and 33 on its last day.
+#[test]
+fn the_amount_is_the_sum_over_stretches() {
+    let with_amounts = |effective_day, amounts: [u64; 2]| {
+        is_well_formed(|ledger| {
+            ledger.contracts[0].effective_day = effective_day;
+            for (row, amount) in ledger.rows.iter_mut().zip(amounts) {
+                row.amount = amount;
+            }
+        })
+    };
+    let (baseline, etii) = (17_800_000, 67_640_000);
+    let row_0 = 333 * 17_800 + 667 * 67_640;
+    assert!(with_amounts(496, [row_0, etii]));
+    assert!(!with_amounts(496, [row_0 + 1, etii]));
+    assert!(!with_amounts(496, [334 * 17_800 + 666 * 67_640, etii]));
+    let row_1 = 967 * 17_800 + 33 * 67_640;
+    assert!(with_amounts(546, [baseline, row_1]));
+    assert!(!with_amounts(546, [baseline, row_1 - 1]));
+    // the amounts of before: all kWh at the rate of the first day
+    assert!(!with_amounts(496, [baseline, etii]));
+    assert!(!with_amounts(546, [baseline, baseline]));
+    // without a change inside they stay
+    for (effective_day, amounts) in [
+        (486, [etii, etii]),
+        (516, [baseline, etii]),
+        (547, [baseline, baseline]),
+    ] {
+        assert!(with_amounts(effective_day, amounts), "{effective_day}");
+    }
+}
+
+/// A ledger stored before with other amounts: every call but start, which takes any contents,
+/// is refused by 2 and changes no byte.
+#[test]
+fn a_ledger_with_amounts_by_the_first_day_is_refused() {
+    let mut numbers = ledger();
+    numbers.contracts[0].effective_day = 496;
+    numbers.rows[0].amount = 17_800_000;
+    let stored = numbers.write();
+    for line in [
+        "open 3 0 2 0 0",
+        "bill 0 600 600 1 1 1 0 0",
+        "rebill 0 486 515 1000 67030 31980 0 0",
+        "cert 0 1 496",
+        "cert 0 0 0",
+        "cancel 0 486",
+        "claim",
+        "report 0",
+        "total",
+    ] {
+        let mut bytes = stored.clone();
+        let outcome = call_on_bytes(&mut bytes, &[11_000; 1_740], &call(line));
+        assert_eq!(outcome, Err(2), "{line}");
+        assert_eq!(bytes, stored, "{line}");
+    }
 }
 
 #[test]

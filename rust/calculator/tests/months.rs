@@ -259,26 +259,52 @@ const STORED: [Stored; 3] = [
     },
 ];
 
-/// Spans across two months and across three, the shortest and whole months, each with the
-/// last day of its first month.
-const STORED_SPANS: [((u32, u32), u32); 4] = [
-    ((515, 516), 515),
-    ((516, 576), 546),
-    ((515, 547), 515),
-    ((577, 668), 607),
+/// A span across months.
+struct StoredSpan {
+    days: (u32, u32),
+    /// The last day of its first month.
+    month_end: u32,
+    /// Of 1,000 kWh those on its first day: the floor of 1,000 divided by the count of its
+    /// days.
+    kwh_on_first_day: i64,
+}
+
+/// Spans across two months and across three, the shortest and whole months: 2, 61, 33 and 92
+/// days.
+const STORED_SPANS: [StoredSpan; 4] = [
+    StoredSpan {
+        days: (515, 516),
+        month_end: 515,
+        kwh_on_first_day: 500,
+    },
+    StoredSpan {
+        days: (516, 576),
+        month_end: 546,
+        kwh_on_first_day: 16,
+    },
+    StoredSpan {
+        days: (515, 547),
+        month_end: 515,
+        kwh_on_first_day: 30,
+    },
+    StoredSpan {
+        days: (577, 668),
+        month_end: 607,
+        kwh_on_first_day: 10,
+    },
 ];
 
 impl Stored {
     /// The facts of a Northern Ireland ledger with contract 7 alone, without a certificate,
-    /// and its row of 1,000 kWh.
+    /// and its row of 1,000 kWh. A span with a QHS share doesn't reach day 792.
     fn facts(&self, span: (u32, u32), shares: (i64, i64)) -> Facts {
         let [baseline, etii, qhs] = self.rates;
         let rest = 1_000 - shares.0 - shares.1;
         let row = Row {
             contract: 7,
-            last_day: span.1,
             bill: Bill {
                 first_day: span.0,
+                last_day: span.1,
                 kwh: 1_000,
                 etii_share: shares.0,
                 qhs_share: shares.1,
@@ -310,13 +336,32 @@ impl Stored {
 
 #[test]
 fn stored_rows_across_months_are_well_formed() {
-    let spans = STORED_SPANS.map(|(span, _)| span);
+    let spans = STORED_SPANS.map(|span| span.days);
     for stored in STORED {
-        for span in spans.into_iter().chain([(486, 576), (486, 851)]) {
+        for span in spans.into_iter().chain([(486, 576), (486, 791)]) {
             for shares in [(0, 0), (300, 0), (0, 200), (300, 200)] {
                 let facts = stored.facts(span, shares);
                 assert_eq!(unpack(&pack(&facts)), Some(facts));
             }
+        }
+        for shares in [(0, 0), (300, 0)] {
+            let facts = stored.facts((486, 851), shares);
+            assert_eq!(unpack(&pack(&facts)), Some(facts));
+        }
+    }
+}
+
+/// Of 366 days 306 are before day 792: floor(200 × 306 / 366) = 167 kWh of the QHS share have
+/// the old minimum and 33 the new one. At the new one a kWh of the gas contract has
+/// 10 × (15,190 − 6,500) = 86,900 ticks; R bounds those of the others at either minimum.
+#[test]
+fn a_stored_row_over_all_months_has_both_qhs_minimums() {
+    for (stored, new_qhs) in STORED.iter().zip([319_800, 86_900, 319_800]) {
+        let [baseline, etii, qhs] = stored.rates;
+        for (rest, etii_share) in [(800, 0), (500, 300)] {
+            let mut facts = stored.facts((486, 851), (etii_share, 200));
+            facts.rows[0].amount = rest * baseline + etii_share * etii + 167 * qhs + 33 * new_qhs;
+            assert_eq!(unpack(&pack(&facts)), Some(facts));
         }
     }
 }
@@ -325,17 +370,19 @@ fn stored_rows_across_months_are_well_formed() {
 fn stored_rows_across_months_take_certificates_and_cancellation() {
     for stored in STORED {
         let [baseline, etii, qhs] = stored.rates.map(|rate| 1_000 * rate);
-        for (span, _) in STORED_SPANS {
-            let mut desk = stored.desk(span, (0, 0));
-            let (first, next) = (span.0, span.0 + 1);
+        for span in STORED_SPANS {
+            let mut desk = stored.desk(span.days, (0, 0));
+            let (first, next) = (span.days.0, span.days.0 + 1);
             desk.expect("report 7", &[1, 1_000, baseline]);
             desk.expect(&format!("cert 7 1 {first}"), &[etii - baseline, 1]);
             desk.expect("report 7", &[1, 1_000, etii]);
             desk.expect(&format!("cert 7 2 {first}"), &[qhs - etii, 1]);
             desk.expect("total", &[qhs, qhs]);
-            desk.expect(&format!("cert 7 2 {next}"), &[baseline - qhs, 1]);
-            desk.expect("cert 7 0 0", &[0, 0]);
-            assert_eq!(desk.module.facts(), stored.facts(span, (0, 0)));
+            let change = span.kwh_on_first_day * (stored.rates[0] - stored.rates[2]);
+            desk.expect(&format!("cert 7 2 {next}"), &[change, 1]);
+            desk.expect("total", &[qhs + change, qhs + change]);
+            desk.expect("cert 7 0 0", &[baseline - qhs - change, 1]);
+            assert_eq!(desk.module.facts(), stored.facts(span.days, (0, 0)));
             desk.expect(&format!("cancel 7 {first}"), &[-baseline]);
             desk.expect("report 7", &[0, 0, 0]);
         }
@@ -347,11 +394,12 @@ fn stored_rows_across_months_with_shares_are_cancelled_too() {
     for stored in STORED {
         let [baseline, etii, qhs] = stored.rates;
         let due = 500 * baseline + 300 * etii + 200 * qhs;
-        for (span, _) in STORED_SPANS {
-            let mut desk = stored.desk(span, (300, 200));
-            desk.expect(&format!("cert 7 1 {}", span.0), &[0, 0]);
+        for StoredSpan { days, .. } in STORED_SPANS {
+            let mut desk = stored.desk(days, (300, 200));
+            desk.expect(&format!("cert 7 1 {}", days.0), &[0, 0]);
+            desk.expect(&format!("cert 7 1 {}", days.1), &[0, 0]);
             desk.expect("report 7", &[1, 1_000, due]);
-            desk.expect(&format!("cancel 7 {}", span.0), &[-due]);
+            desk.expect(&format!("cancel 7 {}", days.0), &[-due]);
         }
     }
 }
@@ -359,13 +407,16 @@ fn stored_rows_across_months_with_shares_are_cancelled_too() {
 #[test]
 fn a_stored_row_across_months_is_rebilled_within_one_month_only() {
     for stored in STORED {
-        for (span, month_end) in STORED_SPANS {
-            let mut desk = stored.desk(span, (0, 0));
-            let (first, next_month) = (span.0, month_end + 1);
+        for StoredSpan {
+            days, month_end, ..
+        } in STORED_SPANS
+        {
+            let mut desk = stored.desk(days, (0, 0));
+            let (first, next_month) = (days.0, month_end + 1);
             let (price, supply) = (stored.prices.0 + 10, stored.prices.1);
             let rate = stored.rates[0] + 100;
             let bill = format!("bill 7 {next_month} {next_month} 1000 {supply} 0 0 0");
-            for last in [span.1, next_month] {
+            for last in [days.1, next_month] {
                 let rebill = format!("rebill 7 {first} {last} 1000 {supply} 0 0 0");
                 desk.expect_refusal(&rebill, 15);
             }

@@ -150,8 +150,9 @@ fn a_certificate_leaves_rows_with_shares_and_does_not_count_them() {
     }
     desk.expect("cert 0 1 486", &[49_840_000, 1]);
     desk.expect("cert 0 2 511", &[252_160_000, 1]);
-    desk.expect("cert 0 2 609", &[-302_000_000, 1]);
-    desk.expect("cancel 0 608", &[-17_800_000]);
+    // of 31 days the first has floor(1,000 / 31) = 32 kWh, which fall to the baseline class
+    desk.expect("cert 0 2 609", &[32 * (17_800 - 319_800), 1]);
+    desk.expect("cancel 0 608", &[-310_136_000]);
     desk.expect("cert 0 1 486", &[0, 0]);
     desk.expect("report 0", &[3, 3_000, 204_104_000]);
 }

@@ -17,13 +17,14 @@ const fn fixed_entered_on(entry_day: u32) -> Kind {
     }
 }
 
-/// A bill of 1,000 kWh of electricity. R is 1,780 mils above the baseline support price and
+/// A bill of 1,000 kWh of electricity on one day. R is 1,780 mils above the baseline support price and
 /// above that of ETII by more than its maximum, 8,900. The margin over the old QHS minimum,
 /// 33,030, is above R. So a kWh has 17,800 ticks in the baseline class,
 /// 3 × 1,780 + 7 × 8,900 = 67,640 in ETII and 10 × 31,980 = 319,800 in QHS.
 fn bill_of_1_000_kwh(first_day: u32, (etii_share, qhs_share): (i64, i64)) -> Bill {
     Bill {
         first_day,
+        last_day: first_day,
         kwh: 1_000,
         etii_share,
         qhs_share,
@@ -120,6 +121,7 @@ fn a_qhs_share_has_the_old_or_the_new_minimum() {
             };
             let bill = Bill {
                 first_day,
+                last_day: first_day,
                 kwh: 10,
                 qhs_share: 4,
                 reference_price,
@@ -145,6 +147,7 @@ fn a_share_may_have_a_lower_rate_than_the_rest() {
     for (supply_price, qhs_rate) in [(33_999, 0), (34_001, 10)] {
         let bill = Bill {
             first_day: 791,
+            last_day: 791,
             kwh: 10,
             qhs_share: 4,
             reference_price: 35_000,

@@ -32,6 +32,7 @@ impl Case {
         };
         let bill = Bill {
             first_day: self.first_day,
+            last_day: self.first_day,
             kwh: 1,
             reference_price: self.reference_price,
             supply_price: self.supply_price,
@@ -99,6 +100,7 @@ fn the_printed_etii_rate_is_not_used() {
     };
     let bill = Bill {
         first_day: 486,
+        last_day: 515,
         kwh: 1_000,
         reference_price: 35_000,
         supply_price: 58_330,

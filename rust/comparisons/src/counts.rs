@@ -1,7 +1,9 @@
-//! What the comparisons met: sessions, calls, refusals, rows, damaged ledgers and differences.
+//! What the comparisons met: sessions, calls, refusals, rows, bills with a change inside, stored
+//! and damaged ledgers, and differences.
 
+use crate::changes_met::{ChangesMet, FewestChanges};
 use crate::sorts::Sorts;
-use crate::{rows_across_months, rows_met};
+use crate::{ledgers_stored_earlier, rows_across_months, rows_met};
 use calculator::calls::Outcome;
 use calculator::refusals::LAST_REFUSAL;
 use std::collections::BTreeMap;
@@ -12,6 +14,23 @@ const FEWEST_MET: u64 = 100;
 
 /// How often each sort of call on rows across months must be met.
 const FEWEST_MET_ACROSS_MONTHS: u64 = 1_000;
+
+/// How often each sort of call on ledgers stored earlier must be met.
+const FEWEST_MET_ON_LEDGERS_STORED_EARLIER: u64 = 1_000;
+
+/// How often bills with a change inside must be met through the library and the twin.
+const FEWEST_CHANGES_IN_LIBRARY: FewestChanges = FewestChanges {
+    of_stretches: 10_000,
+    of_a_change: 300,
+    at_an_edge: 100,
+};
+
+/// How often bills with a change inside must be met through the program.
+const FEWEST_CHANGES_IN_PROGRAM: FewestChanges = FewestChanges {
+    of_stretches: 2_000,
+    of_a_change: 100,
+    at_an_edge: 100,
+};
 
 /// The differences that are printed in full.
 const DIFFERENCES_PRINTED: u64 = 3;
@@ -27,6 +46,8 @@ pub struct Counts {
     runs: BTreeMap<&'static str, u64>,
     accepted: BTreeMap<String, u64>,
     refused: BTreeMap<u32, u64>,
+    /// The bills with a change inside.
+    pub changes: ChangesMet,
 }
 
 /// The damaged ledgers of one kind.
@@ -46,6 +67,8 @@ pub struct Findings {
     pub rows: Sorts,
     /// The calls on rows across months.
     pub rows_across_months: Sorts,
+    /// The calls on ledgers stored before amounts were by day.
+    pub ledgers_stored_earlier: Sorts,
     damages: BTreeMap<String, DamageCounts>,
     differences: u64,
 }
@@ -55,6 +78,7 @@ impl Counts {
         side: &'static str,
         possible_refusals: Vec<u32>,
         possible_calls: Vec<&'static str>,
+        fewest_changes: FewestChanges,
     ) -> Counts {
         Counts {
             side,
@@ -63,6 +87,7 @@ impl Counts {
             runs: BTreeMap::new(),
             accepted: BTreeMap::new(),
             refused: BTreeMap::new(),
+            changes: ChangesMet::new(fewest_changes),
         }
     }
 
@@ -85,6 +110,18 @@ impl Counts {
         println!("  runs: {}", listed(self.runs.clone()));
         println!("  accepted: {}", listed(self.accepted.clone()));
         println!("  refused by number: {}", listed(self.refused.clone()));
+        for (title, counts) in self.changes.met() {
+            println!("  {title}: {}", listed(counts));
+        }
+    }
+
+    /// What must be met and was met too few times, and how often it was.
+    fn met_too_few_times(&self) -> Vec<(String, u64)> {
+        let calls = self.required().into_iter();
+        let calls = calls.filter(|&(_, times)| times < FEWEST_MET);
+        let changes = self.changes.met_too_few_times().into_iter();
+        let changes = changes.map(|(what, times)| (format!("{}: {what}", self.side), times));
+        calls.chain(changes).collect()
     }
 
     /// Each refusal and accepted call that must be met, and how often it was.
@@ -113,10 +150,24 @@ impl Findings {
         let program_refusals = [1].into_iter().chain(4..=LAST_REFUSAL).collect();
         let library_refusals = (2..=LAST_REFUSAL).collect();
         Findings {
-            program: Counts::new("program", program_refusals, program_calls),
-            library: Counts::new("library and twin", library_refusals, library_calls),
+            program: Counts::new(
+                "program",
+                program_refusals,
+                program_calls,
+                FEWEST_CHANGES_IN_PROGRAM,
+            ),
+            library: Counts::new(
+                "library and twin",
+                library_refusals,
+                library_calls,
+                FEWEST_CHANGES_IN_LIBRARY,
+            ),
             rows: Sorts::new(rows_met::sorts(), FEWEST_MET),
             rows_across_months: Sorts::new(rows_across_months::sorts(), FEWEST_MET_ACROSS_MONTHS),
+            ledgers_stored_earlier: Sorts::new(
+                ledgers_stored_earlier::sorts(),
+                FEWEST_MET_ON_LEDGERS_STORED_EARLIER,
+            ),
             damages: BTreeMap::new(),
             differences: 0,
         }
@@ -142,11 +193,13 @@ impl Findings {
     pub fn print(&self) {
         self.program.print();
         self.library.print();
-        println!("  rows: {}", listed(self.rows.met()));
-        println!(
-            "  rows across months: {}",
-            listed(self.rows_across_months.met())
-        );
+        for (title, sorts) in [
+            ("rows", &self.rows),
+            ("rows across months", &self.rows_across_months),
+            ("ledgers stored earlier", &self.ledgers_stored_earlier),
+        ] {
+            println!("  {title}: {}", listed(sorts.met()));
+        }
         println!("damaged ledgers:");
         for (kind, counts) in &self.damages {
             let DamageCounts {
@@ -169,14 +222,18 @@ impl Findings {
 
     /// What must be met and was met too few times, and how often it was.
     fn met_too_few_times(&self) -> Vec<(String, u64)> {
-        let calls = [&self.program, &self.library].map(Counts::required);
-        let calls = calls.concat().into_iter();
-        let calls = calls.filter(|&(_, times)| times < FEWEST_MET);
-        let sorts = [&self.rows, &self.rows_across_months].map(Sorts::met_too_few_times);
+        let sides = [&self.program, &self.library].map(Counts::met_too_few_times);
+        let sorts = [
+            &self.rows,
+            &self.rows_across_months,
+            &self.ledgers_stored_earlier,
+        ]
+        .map(Sorts::met_too_few_times);
         let damages = self.damages.iter();
         let damages = damages.filter(|(_, counts)| counts.tried < counts.fewest);
         let damages = damages.map(|(kind, counts)| (kind.clone(), counts.tried));
-        calls.chain(sorts.concat()).chain(damages).collect()
+        let sides = sides.concat().into_iter();
+        sides.chain(sorts.concat()).chain(damages).collect()
     }
 }
 
@@ -206,9 +263,11 @@ mod tests {
                     .iter()
                     .for_each(|name| side.count_outcome(name, &Ok(vec![])));
             }
+            side.changes.count_each_often_enough();
         }
         findings.rows.count_each_often_enough();
         findings.rows_across_months.count_each_often_enough();
+        findings.ledgers_stored_earlier.count_each_often_enough();
         findings
     }
 
@@ -234,6 +293,21 @@ mod tests {
             ..sufficient_findings()
         };
         assert!(!all_but_rows_across_months.passed());
+        let all_but_ledgers_stored_earlier = Findings {
+            ledgers_stored_earlier: Findings::new().ledgers_stored_earlier,
+            ..sufficient_findings()
+        };
+        assert!(!all_but_ledgers_stored_earlier.passed());
+    }
+
+    #[test]
+    fn bills_with_a_change_inside_must_be_met_on_each_side() {
+        let mut all_but_program = sufficient_findings();
+        all_but_program.program.changes = Findings::new().program.changes;
+        assert!(!all_but_program.passed());
+        let mut all_but_library = sufficient_findings();
+        all_but_library.library.changes = Findings::new().library.changes;
+        assert!(!all_but_library.passed());
     }
 
     #[test]

@@ -2,20 +2,50 @@
 //! and answer as the calculator on those that still are.
 
 use crate::books::random_book;
+use crate::changing_calls::CHANGING;
 use crate::compared_calls::{compare_call, LedgerCall};
 use crate::counts::{DamageCounts, Findings};
-use crate::damages::{damages, Damage};
+use crate::damages::{damages, drawn_damages, Damage};
 use crate::generator::{random_call, Profile, CLAIMING, FILLING, MIXED};
 use crate::random::Random;
 use calculator::codes::Territory;
 use calculator::packed::{pack, unpack, Facts};
 use calculator::postings::PostingModule;
 
-/// The ledgers that are damaged: the territory, the calls drawn and how many.
-const LEDGERS: [(Territory, &Profile, usize); 3] = [
-    (Territory::NorthernIreland, MIXED, 300),
-    (Territory::GreatBritain, CLAIMING, 1_300),
-    (Territory::GreatBritain, FILLING, 1_800),
+/// A ledger that is damaged: the calls that leave it, and the kinds of damage.
+struct Ledger {
+    territory: Territory,
+    profile: &'static Profile,
+    calls: usize,
+    damages: fn() -> Vec<Damage>,
+}
+
+/// The last one has more rows with a change inside than the others.
+const LEDGERS: [Ledger; 4] = [
+    Ledger {
+        territory: Territory::NorthernIreland,
+        profile: MIXED,
+        calls: 300,
+        damages,
+    },
+    Ledger {
+        territory: Territory::GreatBritain,
+        profile: CLAIMING,
+        calls: 1_300,
+        damages,
+    },
+    Ledger {
+        territory: Territory::GreatBritain,
+        profile: FILLING,
+        calls: 1_800,
+        damages,
+    },
+    Ledger {
+        territory: Territory::GreatBritain,
+        profile: CHANGING,
+        calls: 1_000,
+        damages: drawn_damages,
+    },
 ];
 
 /// The calls on each damaged ledger.
@@ -23,11 +53,11 @@ const CALLS: usize = 2;
 
 /// Compares calls on every kind of damage to each ledger.
 pub fn compare(findings: &mut Findings, seed: u64) {
-    for (number, &(territory, profile, calls)) in LEDGERS.iter().enumerate() {
+    for (number, ledger) in LEDGERS.iter().enumerate() {
         let mut random = Random::new(seed, "damaged ledgers", number as u64);
-        let facts = random_facts(&mut random, territory, profile, calls);
+        let facts = random_facts(&mut random, ledger.territory, ledger.profile, ledger.calls);
         let place = format!("seed {seed}, damaged ledger {number}");
-        for damage in damages() {
+        for damage in (ledger.damages)() {
             compare_damage(findings, &mut random, &facts, &damage, &place);
         }
     }

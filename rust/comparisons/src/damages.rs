@@ -1,11 +1,12 @@
 //! The kinds of damage that are done to a ledger.
 
+use crate::changes_inside::amount_by_first_day;
 use crate::generator::shares_above;
 use crate::random::Random;
 use calculator::facts::{CONTRACTS, MOST_ROWS};
 use calculator::layout::{ContractNumbers, LedgerNumbers, RowNumbers, LEDGER_BYTES};
 use calculator::packed::{pack, unpack};
-use calculator::rates::{amount, Bill};
+use calculator::rates::{amount, Bill, Contract};
 
 /// A kind of damage: its ledgers are numbered from 0.
 pub struct Damage {
@@ -119,7 +120,7 @@ fn row_field_damages() -> impl Iterator<Item = Damage> {
 }
 
 /// The kinds whose place is drawn at random.
-fn drawn_damages() -> Vec<Damage> {
+pub fn drawn_damages() -> Vec<Damage> {
     vec![
         drawn_damage("rows swapped", rows_swapped),
         drawn_damage("row repeated", row_repeated),
@@ -129,6 +130,10 @@ fn drawn_damages() -> Vec<Damage> {
         drawn_damage("padding not zero", padding_not_zero),
         drawn_damage("amount off by one", amount_off_by_one),
         drawn_damage("amount as without shares", amount_as_without_shares),
+        Damage {
+            count: 2 * DRAWN,
+            ..drawn_damage("amount as by the first day alone", amount_as_by_first_day)
+        },
         drawn_damage("shares exchanged", shares_exchanged),
         drawn_damage("shares of all kWh or more", shares_of_all_kwh_or_more),
         drawn_damage("contract of a row closed", contract_closed),
@@ -336,16 +341,32 @@ fn amount_off_by_one(random: &mut Random, ledger: &[u8], number: usize) -> Vec<u
 
 /// A row with shares gets the amount that it would have without them.
 fn amount_as_without_shares(random: &mut Random, ledger: &[u8], _: usize) -> Vec<u8> {
+    with_other_amount(random, ledger, |contract, bill| {
+        let without_shares = Bill {
+            etii_share: 0,
+            qhs_share: 0,
+            ..*bill
+        };
+        amount(contract, &without_shares)
+    })
+}
+
+/// A row with a change inside gets the amount that it had before amounts were by day.
+fn amount_as_by_first_day(random: &mut Random, ledger: &[u8], _: usize) -> Vec<u8> {
+    with_other_amount(random, ledger, amount_by_first_day)
+}
+
+/// A row gets the amount given for its bill, which is another than its own.
+fn with_other_amount(
+    random: &mut Random,
+    ledger: &[u8],
+    other_amount: impl Fn(&Contract, &Bill) -> i64,
+) -> Vec<u8> {
     let mut facts = unpack(ledger).expect("a ledger is well formed before it is damaged");
     let contracts = facts.contracts;
     let rows = facts.rows.iter_mut().filter_map(|row| {
         let contract = contracts[row.contract as usize].expect("its contract is open");
-        let without_shares = Bill {
-            etii_share: 0,
-            qhs_share: 0,
-            ..row.bill
-        };
-        let amount = amount(&contract, &without_shares);
+        let amount = other_amount(&contract, &row.bill);
         (amount != row.amount).then_some((row, amount))
     });
     if let Some((row, amount)) = one_if_any(random, rows) {
@@ -411,8 +432,8 @@ fn random_bytes_from_a_place_on(random: &mut Random, ledger: &[u8], _: usize) ->
 #[cfg(test)]
 mod tests {
     use super::*;
+    use crate::changing_calls::CHANGING;
     use crate::damaged_ledgers::random_facts;
-    use crate::generator::FILLING;
     use calculator::codes::Territory;
 
     #[test]
@@ -465,7 +486,7 @@ mod tests {
     #[test]
     fn every_kind_of_damage_gives_ledgers_that_are_not_well_formed() {
         let mut random = Random::new(1, "damages", 0);
-        let facts = random_facts(&mut random, Territory::GreatBritain, FILLING, 300);
+        let facts = random_facts(&mut random, Territory::GreatBritain, CHANGING, 300);
         let ledger = pack(&facts);
         assert!(unpack(&ledger).is_some());
         for damage in damages() {

@@ -1,7 +1,7 @@
 //! Random calls that mean something to a ledger: they bill open contracts on free days, mostly
 //! within one month where their prices are monthly, rebill and cancel rows that are held, and
-//! date certificates by them. Some get a number that is off by one or has nothing to do with
-//! the ledger.
+//! date certificates by them, at their edges and inside. Some get a number that is off by one
+//! or has nothing to do with the ledger.
 
 use crate::months::month_end;
 use crate::random::Random;
@@ -13,7 +13,7 @@ use calculator::packed::{Facts, Row};
 use calculator::rates::{Kind, NEW_QHS_MINIMUM_DAY};
 
 /// Draws a call on a ledger with these facts.
-type Draw = fn(&mut Random, &Facts) -> Call;
+pub type Draw = fn(&mut Random, &Facts) -> Call;
 
 /// The calls that are drawn, by weight.
 pub type Profile = [(usize, Draw)];
@@ -68,6 +68,9 @@ pub const ON_ROWS: &Profile = &[
     (8, report),
     (2, total),
 ];
+
+/// Each call but start, once.
+pub const EACH_BUT_START: [Draw; 8] = [open, bill, rebill, cert, cancel, claim, report, total];
 
 /// First days at the edges of the scheme, of QHS certificates and of the new QHS minimum.
 const BOUNDARY_DAYS: [u32; 6] = [486, 510, 511, 791, 792, 851];
@@ -163,6 +166,7 @@ fn disturbed(random: &mut Random, call: &Call) -> Call {
 }
 
 fn open(random: &mut Random, facts: &Facts) -> Call {
+    let contract = free_number(random, facts);
     let fuel = random.within(0..=1);
     let index_in_place = fuel == 0 && facts.territory == Territory::NorthernIreland;
     let kinds = if index_in_place {
@@ -171,7 +175,6 @@ fn open(random: &mut Random, facts: &Facts) -> Call {
         &[0, 1, 2, 2]
     };
     let kind = random.one_of(kinds);
-    let contract = number_of(random, &contract_numbers(facts, false));
     let (price_fix_day, entry_day) = match kind {
         0 => (contract_day(random), entry_day(random)),
         _ => (0, 0),
@@ -195,19 +198,20 @@ fn short_bill(random: &mut Random, facts: &Facts) -> Call {
 
 fn bill_of_days(random: &mut Random, facts: &Facts, most_days: u32) -> Call {
     let contract = open_contract(random, facts);
-    let span = free_span(random, facts, contract, most_days);
+    let draw = |random: &mut Random| any_span(random, most_days);
+    let span = free_span(random, facts, contract, draw);
     Call::Bill(bill_numbers(random, facts, contract, span))
 }
 
 /// The rebill of a held row, at times of a span that no row begins.
-fn rebill(random: &mut Random, facts: &Facts) -> Call {
+pub fn rebill(random: &mut Random, facts: &Facts) -> Call {
     let Some(row) = held_row(random, facts) else {
         return bill(random, facts);
     };
     let (first, last) = if random.once_in(OTHER_SPAN_ONCE_IN) {
         any_span(random, MOST_DAYS)
     } else {
-        row.span()
+        row.bill.span()
     };
     let last = match random.below(4) {
         0 => random.within(first..=LAST_DAY),
@@ -223,11 +227,11 @@ fn rebill_of_same_span(random: &mut Random, facts: &Facts) -> Call {
     let Some(row) = held_row(random, facts) else {
         return bill(random, facts);
     };
-    Call::Rebill(bill_numbers(random, facts, row.contract, row.span()))
+    Call::Rebill(bill_numbers(random, facts, row.contract, row.bill.span()))
 }
 
-/// The certificate starts with a row of the contract or a day later, mostly.
-fn cert(random: &mut Random, facts: &Facts) -> Call {
+/// The certificate starts inside a row of the contract or at an edge of it, mostly.
+pub fn cert(random: &mut Random, facts: &Facts) -> Call {
     let row = held_row(random, facts);
     let contract = match row {
         Some(row) if !random.once_in(4) => row.contract,
@@ -236,7 +240,7 @@ fn cert(random: &mut Random, facts: &Facts) -> Call {
     let class = random.one_of(&[0, 1, 1, 2, 2]);
     let effective_day = match (class, row) {
         (0, _) => 0,
-        (_, Some(row)) if !random.once_in(3) => row.bill.first_day + random.within(0..=1),
+        (_, Some(row)) if !random.once_in(3) => day_of_span(random, row.bill.span()),
         _ => first_day(random),
     };
     Call::Cert {
@@ -246,7 +250,7 @@ fn cert(random: &mut Random, facts: &Facts) -> Call {
     }
 }
 
-fn cancel(random: &mut Random, facts: &Facts) -> Call {
+pub fn cancel(random: &mut Random, facts: &Facts) -> Call {
     match held_row(random, facts) {
         Some(row) => Call::Cancel {
             contract: row.contract,
@@ -259,22 +263,22 @@ fn cancel(random: &mut Random, facts: &Facts) -> Call {
     }
 }
 
-fn claim(_: &mut Random, _: &Facts) -> Call {
+pub fn claim(_: &mut Random, _: &Facts) -> Call {
     Call::Claim
 }
 
-fn report(random: &mut Random, facts: &Facts) -> Call {
+pub fn report(random: &mut Random, facts: &Facts) -> Call {
     Call::Report {
         contract: open_contract(random, facts),
     }
 }
 
-fn total(_: &mut Random, _: &Facts) -> Call {
+pub fn total(_: &mut Random, _: &Facts) -> Call {
     Call::Total
 }
 
 /// The numbers of a bill of the contract and span; WAP is 0 unless the contract is flexible.
-fn bill_numbers(
+pub fn bill_numbers(
     random: &mut Random,
     facts: &Facts,
     contract: u32,
@@ -352,8 +356,13 @@ fn number_of(random: &mut Random, numbers: &[u32]) -> u32 {
     }
 }
 
-fn open_contract(random: &mut Random, facts: &Facts) -> u32 {
+pub fn open_contract(random: &mut Random, facts: &Facts) -> u32 {
     number_of(random, &contract_numbers(facts, true))
+}
+
+/// The number of a contract that isn't open, or any if all are.
+pub fn free_number(random: &mut Random, facts: &Facts) -> u32 {
+    number_of(random, &contract_numbers(facts, false))
 }
 
 fn kind_of(facts: &Facts, contract: u32) -> Option<Kind> {
@@ -361,12 +370,12 @@ fn kind_of(facts: &Facts, contract: u32) -> Option<Kind> {
     Some(contract.kind)
 }
 
-fn held_row(random: &mut Random, facts: &Facts) -> Option<Row> {
+pub fn held_row(random: &mut Random, facts: &Facts) -> Option<Row> {
     let rows = &facts.rows;
     (!rows.is_empty()).then(|| random.one_of(rows))
 }
 
-fn contract_day(random: &mut Random) -> u32 {
+pub fn contract_day(random: &mut Random) -> u32 {
     if random.once_in(3) {
         random.one_of(&BOUNDARY_CONTRACT_DAYS)
     } else {
@@ -393,16 +402,22 @@ fn first_day(random: &mut Random) -> u32 {
     }
 }
 
-/// A span of the contract that shares no day with its rows, if one is found in a few tries.
-fn free_span(random: &mut Random, facts: &Facts, contract: u32, most_days: u32) -> (u32, u32) {
+/// A span as it is drawn, for a bill of the contract that shares no day with its rows, if one is
+/// found in a few tries.
+pub fn free_span(
+    random: &mut Random,
+    facts: &Facts,
+    contract: u32,
+    draw: impl Fn(&mut Random) -> (u32, u32),
+) -> (u32, u32) {
     let mut draw = || {
-        let span = any_span(random, most_days);
+        let span = draw(random);
         span_of_contract(random, facts, contract, span)
     };
     let mut span = draw();
     for _ in 0..6 {
         let mut rows = facts.rows.iter().filter(|row| row.contract == contract);
-        if !rows.any(|row| spans_share_a_day(row.span(), span)) {
+        if !rows.any(|row| spans_share_a_day(row.bill.span(), span)) {
             break;
         }
         span = draw();
@@ -435,6 +450,12 @@ fn any_span(random: &mut Random, most_days: u32) -> (u32, u32) {
     let first = first_day(random);
     let last = first + random.within(0..=most_days - 1);
     (first, last.min(LAST_DAY))
+}
+
+/// A day of the span or the day after it, often one at the span's edges.
+pub fn day_of_span(random: &mut Random, (first, last): (u32, u32)) -> u32 {
+    let any = random.within(first..=last);
+    random.one_of(&[first, first + 1, last, last + 1, any, any, any, any])
 }
 
 #[cfg(test)]

@@ -3,6 +3,7 @@
 //! sheet").
 
 use crate::books::random_book;
+use crate::changing_calls::CHANGING;
 use crate::compared_calls::{compare_call, LedgerCall};
 use crate::counts::Findings;
 use crate::generator::{random_call, start, Profile, CLAIMING, FILLING, MIXED};
@@ -21,7 +22,7 @@ struct Histories {
 }
 
 /// Enough calls that the rows, and the claims, are used up before the last ones.
-const HISTORIES: [Histories; 3] = [
+const HISTORIES: [Histories; 4] = [
     Histories {
         kind: "mixed histories",
         count: 1_750,
@@ -39,6 +40,12 @@ const HISTORIES: [Histories; 3] = [
         count: 4,
         calls: 1_250,
         profile: CLAIMING,
+    },
+    Histories {
+        kind: "histories of bills with a change inside",
+        count: 190,
+        calls: 750,
+        profile: CHANGING,
     },
 ];
 
@@ -65,6 +72,8 @@ fn compare_history(findings: &mut Findings, histories: &Histories, seed: u64, nu
         if let Call::Cert { contract, .. } = call {
             count_certificate(&mut findings.rows, contract, &facts, &left);
         }
+        let changes = &mut findings.library.changes;
+        changes.count_call(call.name(), &facts, &left);
         facts = left;
         call = random_call(&mut random, &facts, histories.profile);
     }

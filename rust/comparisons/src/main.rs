@@ -3,13 +3,18 @@
 //! where something was met too few times to count as compared.
 
 mod books;
+mod changes_inside;
+mod changes_met;
+mod changing_calls;
 mod compared_calls;
 mod counts;
+mod cuts;
 mod damaged_ledgers;
 mod damages;
 mod dates;
 mod generator;
 mod implementations;
+mod ledgers_stored_earlier;
 mod library_histories;
 mod months;
 mod program_sessions;
@@ -39,6 +44,7 @@ fn main() -> ExitCode {
     dates::compare(&mut findings);
     library_histories::compare(&mut findings, seed);
     stored_rows::compare(&mut findings, seed);
+    ledgers_stored_earlier::compare(&mut findings, seed);
     damaged_ledgers::compare(&mut findings, seed);
     findings.print();
     if findings.passed() {

@@ -1,11 +1,13 @@
 //! Sessions of the compiled program: what it prints is the calculator's transcript
 //! (document 01, section "The program and one run").
 
+use crate::changing_calls::CHANGING;
 use crate::counts::Findings;
 use crate::generator::{Profile, CLAIMING, FILLING, MIXED};
 use crate::random::Random;
 use crate::session_text::random_session;
-use calculator::session::{transcript, INPUT_BYTES};
+use calculator::session::{transcript, Session, INPUT_BYTES};
+use std::borrow::Cow;
 use std::ops::RangeInclusive;
 
 /// Document 01's run, with shares of 0.
@@ -30,7 +32,7 @@ struct Sessions {
 }
 
 /// The longest ones are ended by the input's limit, after the rows or the claims are used up.
-const SESSIONS: [Sessions; 3] = [
+const SESSIONS: [Sessions; 4] = [
     Sessions {
         kind: "mixed sessions",
         count: 6_500,
@@ -48,6 +50,12 @@ const SESSIONS: [Sessions; 3] = [
         count: 8,
         calls: 1_500..=3_000,
         profile: CLAIMING,
+    },
+    Sessions {
+        kind: "sessions of bills with a change inside",
+        count: 240,
+        calls: 400..=600,
+        profile: CHANGING,
     },
 ];
 
@@ -93,6 +101,7 @@ pub fn compare_session(findings: &mut Findings, kind: &'static str, place: &str,
     findings.program.count_run(kind);
     let expected = transcript(input);
     count_lines(findings, input, &expected);
+    count_changes(findings, input);
     let printed = program::printed(input);
     if printed != expected {
         findings.count_difference(|| {
@@ -108,10 +117,31 @@ fn count_lines(findings: &mut Findings, input: &[u8], expected: &[u8]) {
             Some(number) => Err(number.parse().expect("a refusal has a number")),
             None => Ok(vec![]),
         };
-        let name = line.split(|byte| byte.is_ascii_whitespace()).next();
-        let name = String::from_utf8_lossy(name.unwrap_or_default());
-        findings.program.count_outcome(&name, &outcome);
+        findings.program.count_outcome(&name_of(line), &outcome);
     }
+}
+
+/// Counts the bills with a change inside that the lines of an input rate.
+fn count_changes(findings: &mut Findings, input: &[u8]) {
+    if input.len() > INPUT_BYTES {
+        return;
+    }
+    let mut session = Session::fresh();
+    let mut before = session.facts();
+    for line in lines(input) {
+        // the outcome is compared with what the program prints
+        let _ = session.reply(line);
+        let after = session.facts();
+        let changes = &mut findings.program.changes;
+        changes.count_call(&name_of(line), &before, &after);
+        before = after;
+    }
+}
+
+/// The name of the call that a line asks for, if it can be read.
+fn name_of(line: &[u8]) -> Cow<'_, str> {
+    let name = line.split(|byte| byte.is_ascii_whitespace()).next();
+    String::from_utf8_lossy(name.unwrap_or_default())
 }
 
 /// The first line printed that isn't the calculator's, and the input up to it.
@@ -134,4 +164,35 @@ fn described(input: &[u8], printed: &[u8], expected: &[u8]) -> String {
 /// The lines with their line feeds.
 fn lines(text: &[u8]) -> impl Iterator<Item = &[u8]> {
     text.split_inclusive(|&byte| byte == b'\n')
+}
+
+#[cfg(test)]
+mod tests {
+    use super::{count_changes, Findings};
+
+    /// Of three bills the first has no change inside and the last is refused.
+    #[test]
+    fn the_bills_that_a_session_rates_are_counted() {
+        let input = b"open 0 0 2 0 0
+bill 0 486 515 1000 50000 40000 0 0
+bill 0 780 800 1000 50000 40000 0 300
+cert 0 1 496
+bill 0 515 516 1000 50000 40000 0 0
+cert 0 1 500
+total
+";
+        let mut findings = Findings::new();
+        count_changes(&mut findings, input);
+        let counts = findings.program.changes.met().map(|(_, counts)| counts);
+        let met = counts.concat().into_iter().filter(|&(_, times)| times > 0);
+        assert!(met.eq([
+            ("two stretches".to_string(), 2),
+            ("QHS share across day 792".to_string(), 1),
+            ("ETII begins, by a certificate".to_string(), 2),
+            (
+                "minimum of a QHS share changes, billed or rebilled".to_string(),
+                1
+            ),
+        ]));
+    }
 }

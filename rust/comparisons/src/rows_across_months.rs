@@ -51,7 +51,7 @@ pub fn sorts() -> Vec<String> {
 pub fn rows_across_months(facts: &Facts) -> impl Iterator<Item = &Row> {
     let monthly = |row: &Row| contract_of(facts, row).kind.has_monthly_prices();
     let rows = facts.rows.iter();
-    rows.filter(move |row| monthly(row) && months_touched(row.span()) > 1)
+    rows.filter(move |row| monthly(row) && months_touched(row.bill.span()) > 1)
 }
 
 /// A call with its outcome, and the facts before it and after it.
@@ -68,7 +68,7 @@ pub fn count_call(sorts: &mut Sorts, made: &CallMade) {
     let met = rows.filter_map(|row| {
         let contract = contract_name(&contract_of(made.before, row));
         let event = event(made, row)?;
-        Some(sort(&contract, months_touched(row.span()), event))
+        Some(sort(&contract, months_touched(row.bill.span()), event))
     });
     for sort in met.collect::<BTreeSet<String>>() {
         sorts.count(&sort);
@@ -149,6 +149,7 @@ mod tests {
         facts.rows.extend(ROWS.map(|(number, span, etii_share)| {
             let bill = Bill {
                 first_day: span.0,
+                last_day: span.1,
                 kwh: 10,
                 etii_share,
                 reference_price: 31_980,
@@ -157,7 +158,6 @@ mod tests {
             };
             Row {
                 contract: number,
-                last_day: span.1,
                 bill,
                 amount: amount(&contract(Kind::Variable), &bill),
             }
@@ -209,7 +209,12 @@ mod tests {
             &[5, 1, 640],
             &["2 months, re-rated by a certificate"],
         );
-        expect("cert", &[5, 1, 641], &[]);
+        expect(
+            "cert",
+            &[5, 1, 670],
+            &["2 months, re-rated by a certificate"],
+        );
+        expect("cert", &[5, 1, 671], &[]);
         expect("cert", &[5, 0, 0], &[]);
         expect("cert", &[5, 1, 485], &[]);
         expect("cert", &[6, 1, 486], &[]);

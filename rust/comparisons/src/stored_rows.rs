@@ -13,6 +13,7 @@ use calculator::codes::{spans_share_a_day, Territory};
 use calculator::dates::LAST_DAY;
 use calculator::facts::CONTRACTS;
 use calculator::packed::{pack, Facts, Row};
+use calculator::rates::{amount, Bill, Contract};
 
 const KIND: &str = "histories of stored rows across months";
 
@@ -60,6 +61,8 @@ fn compare_history(findings: &mut Findings, seed: u64, number: u64) {
             after: &left,
         };
         count_call(&mut findings.rows_across_months, &made);
+        let changes = &mut findings.library.changes;
+        changes.count_call(call.name(), &facts, &left);
         facts = left;
     }
 }
@@ -72,10 +75,11 @@ fn stored_facts(random: &mut Random) -> Facts {
     let mut rows: Vec<Row> = Vec::new();
     for row in &facts.rows {
         let taken = rows.last().is_some_and(|before| {
-            before.contract == row.contract && spans_share_a_day(before.span(), row.span())
+            before.contract == row.contract
+                && spans_share_a_day(before.bill.span(), row.bill.span())
         });
         if !taken {
-            rows.push(lengthened(random, row));
+            rows.push(lengthened(random, &contract_of(&facts, row), row));
         }
     }
     facts.rows = rows;
@@ -83,16 +87,21 @@ fn stored_facts(random: &mut Random) -> Facts {
 }
 
 /// The row with a last day in its first month or, mostly, in one of the next two: the first or
-/// the last day of that month, or any.
-fn lengthened(random: &mut Random, row: &Row) -> Row {
+/// the last day of that month, or any. Its amount is that of the longer bill.
+fn lengthened(random: &mut Random, contract: &Contract, row: &Row) -> Row {
     let mut earliest = row.bill.first_day;
     for _ in 0..random.one_of(&[0, 1, 1, 1, 2, 2, 2, 2]) {
         earliest = (month_end(earliest) + 1).min(LAST_DAY);
     }
     let latest = month_end(earliest);
     let any = random.within(earliest..=latest);
-    Row {
+    let bill = Bill {
         last_day: random.one_of(&[earliest, latest, any]),
+        ..row.bill
+    };
+    Row {
+        bill,
+        amount: amount(contract, &bill),
         ..*row
     }
 }
@@ -139,7 +148,8 @@ mod tests {
     fn rows_of_every_sort_are_drawn() {
         let sort = |facts: &Facts, row: &Row| {
             let contract = contract_name(&contract_of(facts, row));
-            (contract, months_touched(row.span()), row.bill.has_shares())
+            let months = months_touched(row.bill.span());
+            (contract, months, row.bill.has_shares())
         };
         let mut drawn = BTreeSet::new();
         for facts in drawn_facts() {
@@ -163,7 +173,7 @@ mod tests {
     fn rows_end_with_the_first_and_with_the_last_day_of_a_month() {
         let mut last_days = BTreeSet::new();
         for facts in drawn_facts() {
-            last_days.extend(rows_across_months(&facts).map(|row| row.last_day));
+            last_days.extend(rows_across_months(&facts).map(|row| row.bill.last_day));
         }
         let month_ends = last_days.iter().filter(|&&day| day == month_end(day));
         assert!(month_ends.count() > 6);
