@@ -66,3 +66,15 @@ pub fn expect(input: &[u8], lines: &[&str]) {
         String::from_utf8_lossy(&input[..input.len().min(200)])
     );
 }
+
+/// Holds a session to its lines, of which each is written with what is printed of it: `line: printed`.
+pub fn expect_lines(session: &[&str]) {
+    let mut input = String::new();
+    let mut lines = Vec::new();
+    for both in session {
+        let (line, printed) = both.split_once(": ").expect("a line and what is printed");
+        input += &format!("{line}\n");
+        lines.push(printed);
+    }
+    expect(input.as_bytes(), &lines);
+}

@@ -1,19 +1,7 @@
 //! Sessions of bills with an ETII share and a QHS share (document 02, paper 1). The bills of electricity for April and May 2023 are at
 //! R 31,980 and S 67,030: in ticks a kWh, baseline 10 × 1,780 = 17,800, ETII 3 × 1,780 + 7 × 8,900 = 67,640, QHS 10 × 31,980 = 319,800.
 
-use program::expect;
-
-/// Holds a session to its lines, of which each is written with what is printed of it: `line: printed`.
-fn expect_lines(session: &[&str]) {
-    let mut input = String::new();
-    let mut lines = Vec::new();
-    for both in session {
-        let (line, printed) = both.split_once(": ").expect("a line and what is printed");
-        input += &format!("{line}\n");
-        lines.push(printed);
-    }
-    expect(input.as_bytes(), &lines);
-}
+use program::expect_lines;
 
 /// The rate answered is the baseline one, even where the shares leave no rest.
 #[test]
