@@ -16,8 +16,9 @@
  *   A packed ledger is EBDS_LEDGER_LENGTH bytes. A call takes bytes of any length and any contents
  *   and gives 2 where they aren't a well-formed ledger. It may be copied, stored and sent as bytes.
  *   It may hold rows of variable and index contracts across two months or more, from before number
- *   15 came: they stand with the price that they hold, and take certificates and cancellation. One
- *   stored before bills were rated by day is well formed where its amounts are those by day.
+ *   15 came: they stand with the price that they hold, and take certificates and cancellation. A
+ *   ledger stored before bills were rated by day is well formed only where its amounts are those by
+ *   day.
  *
  * The price book
  *   EBDS_BOOK_LENGTH prices in mils (thousandths of a penny per kWh), 0 meaning not published. Fixed

@@ -3,7 +3,6 @@ use mathlib.Core.Path.{_≡_, refl, sym, subst, _∙_}
 use Prim.Native.Nat.{ℕ, zero, suc, _+_, _-_, _*_, _<_, _≤_, zero-le}
 use native.Mathlib.Nat.{add-zero, add-suc}
 use native.Mathlib.Omega.{arith}
-use Rattle.limits.specs.Limits.{newMinimumDay}
 use Rattle.basics.specs.Lists.{All}
 use Rattle.basics.proofs.Lists.{all-map, total-all, total-cong}
 use Rattle.rates.specs.declared.Kind.{Kind}
@@ -15,8 +14,10 @@ use Rattle.rates.specs.Rates.{classRate, qhsClass, certifiedClass, classOf}
 use Rattle.amounts.specs.declared.Bill.{Bill}
 use Rattle.amounts.specs.Days.{byDay}
 use Rattle.amounts.specs.Amounts.{daysOf, shares, shareAt, billAt, rateOf, capOf, amount, cap, rate}
-use Rattle.amounts.specs.AmountLaws.{byStretches, effectiveDay, NoChangeInside, earlierAmount, SharesRated, StretchesRated, WithoutChangeInside, AmountsBounded}
-use Rattle.amounts.proofs.Days.{by-day-cong}
+use Rattle.amounts.specs.Stretches.{changeDays}
+use Rattle.amounts.specs.EarlierAmount.{earlierAmount}
+use Rattle.amounts.specs.AmountLaws.{billByStretches, NoChangeInside, SharesRated, StretchesRated, WithoutChangeInside, AmountsBounded}
+use Rattle.amounts.proofs.Days.{by-day-none, by-day-cong}
 use Rattle.amounts.proofs.Stretches.{sum-over-stretches, one-class}
 use Rattle.amounts.proofs.Certificates.{etii-from, qhs-from, changes, at-most-three, cut}
 use Rattle.amounts.proofs.Shares.{none-given, some-given, certificate-kept, set-aside, shares-whole, bill-without, bill-with, bill-one-price}
@@ -60,7 +61,7 @@ shares-rated = record { without-shares = without-shares; rate-without = rate-wit
 
 -- ---- stretches
 
-summed : (price : Class → ℕ) (contract : Contract) (bill : Bill) → billAt price contract bill ≡ byStretches price contract bill
+summed : (price : Class → ℕ) (contract : Contract) (bill : Bill) → billAt price contract bill ≡ billByStretches price contract bill
 unfolding billAt
 summed price contract bill = total-cong _ _ (λ s. share-stretches price (contract .kind) bill (s .kwh) (s .certificate)) (shares contract bill)
 
@@ -77,36 +78,37 @@ stretches-rated = record {
 -- ---- without a change inside
 
 module _ (price : Class → ℕ) (contract : Contract) (bill : Bill) (days : bill .first ≤ bill .last) where
-  -- k kWh of one class
-  one : (k : ℕ) (class : ℕ → Class) → NoChangeInside class bill → byDay price k (daysOf bill) (λ j. class (bill .first + j)) ≡ k * price (class (bill .first))
-  one k class same = one-class price k (daysOf bill) (λ j. class (bill .first + j)) (class (bill .first)) (omega arith) (λ j h. same (bill .first + j) (omega arith) (omega arith))
+  -- k kWh of one class, or none
+  one : (k : ℕ) (class : ℕ → Class) → (0 < k → NoChangeInside class bill) → byDay price k (daysOf bill) (λ j. class (bill .first + j)) ≡ k * price (class (bill .first))
+  one zero class same = by-day-none price (daysOf bill) (λ j. class (bill .first + j)) ∙ omega arith
+  one (suc k) class same =
+      one-class price (suc k) (daysOf bill) (λ j. class (bill .first + j)) (class (bill .first)) (omega arith)
+      (λ j h. same (omega arith) (bill .first + j) (omega arith) (omega arith))
 
   priced : bill .etii ≡ 0 → bill .qhs ≡ 0 → NoChangeInside (classOf contract) bill → billAt price contract bill ≡ bill .kwh * price (classOf contract (bill .first))
-  priced etii qhs same = without-shares price contract bill etii qhs ∙ one (bill .kwh) (classOf contract) same
+  priced etii qhs same = without-shares price contract bill etii qhs ∙ one (bill .kwh) (classOf contract) (λ some. same)
 
-  shares-kept : 0 < bill .etii + bill .qhs → NoChangeInside (qhsClass (contract .kind)) bill
+  shares-kept : 0 < bill .etii + bill .qhs → (0 < bill .qhs → NoChangeInside (qhsClass (contract .kind)) bill)
       → billAt price contract bill
       ≡ (bill .kwh - (bill .etii + bill .qhs)) * price Baseline
       + bill .etii * price Etii
       + bill .qhs * price (qhsClass (contract .kind) (bill .first))
   shares-kept some same = with-shares price contract bill days some ∙ omega (arith, one (bill .qhs) (qhsClass (contract .kind)) same)
 
-no-day-inside : (certificate : Certificate) (kind : Kind) (bill : Bill) → (bill .first < effectiveDay certificate → bill .last < effectiveDay certificate)
-    → (bill .first < newMinimumDay → bill .last < newMinimumDay) → NoChangeInside (certifiedClass certificate kind) bill
-no-day-inside certificate kind bill effective new day from to =
+no-day-inside : (certificate : Certificate) (kind : Kind) (bill : Bill) → All (λ d. bill .first < d → bill .last < d) (changeDays certificate kind)
+    → NoChangeInside (certifiedClass certificate kind) bill
+no-day-inside certificate kind bill outside day from to =
     subst (λ (d : ℕ). certifiedClass certificate kind d ≡ certifiedClass certificate kind (bill .first)) (omega arith) (after (day - bill .first) (omega arith))
   where
     -- a day of the bill after its first is no day that doesn't lie inside
-    other : (d m : ℕ) → (bill .first < d → bill .last < d) → bill .first + suc m ≤ bill .last → suc (bill .first + m) ≡ d → ⊥
-    other d m outside h e = let l : bill .last < d = outside (omega arith) in omega arith
+    other : (m : ℕ) → bill .first + suc m ≤ bill .last → (d : ℕ) → (bill .first < d → bill .last < d) → suc (bill .first + m) ≡ d → ⊥
+    other m h d later e = let l : bill .last < d = later (omega arith) in omega arith
 
     after : (m : ℕ) → bill .first + m ≤ bill .last → certifiedClass certificate kind (bill .first + m) ≡ certifiedClass certificate kind (bill .first)
     after zero h = rw add-zero
-    after (suc m) h =
-        rw add-suc
-        (changes certificate kind (bill .first + m) (other (effectiveDay certificate) m effective h) (other newMinimumDay m new h) ∙ after m (omega arith))
+    after (suc m) h = rw add-suc (changes certificate kind (bill .first + m) (all-map _ _ (other m h) (changeDays certificate kind) outside) ∙ after m (omega arith))
 
-as-before : (contract : Contract) (bill : Bill) → bill .first ≤ bill .last → All (λ s. NoChangeInside (certifiedClass (s .certificate) (contract .kind)) bill) (shares contract bill)
+as-before : (contract : Contract) (bill : Bill) → bill .first ≤ bill .last → All (λ s. 0 < s .kwh → NoChangeInside (certifiedClass (s .certificate) (contract .kind)) bill) (shares contract bill)
     → amount contract bill ≡ earlierAmount contract bill
 unfolding amount billAt shareAt earlierAmount
 as-before contract bill days same =

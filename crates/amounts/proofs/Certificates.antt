@@ -1,19 +1,20 @@
 -- The class of each day under a certificate, its changes, and the stretches that they cut. Assumes nothing.
 use mathlib.Core.Path.{_≡_, refl, sym, _∙_}
-use mathlib.Core.Bool.{true, false}
+use mathlib.Core.Bool.{true, false, cond}
+use mathlib.Core.List.{[], _∷_}
 use Prim.Native.Nat.{ℕ, suc, _+_, _-_, _≤_, _<_, zero-le}
 use native.Mathlib.Omega.{arith}
 use lib.Dec.{leb}
 use lib.ListN.{length}
 use Rattle.limits.specs.Limits.{newMinimumDay}
+use Rattle.basics.specs.Lists.{All}
 use Rattle.basics.proofs.Tests.{either, yes-le, no-le, le-yes, le-no}
 use Rattle.rates.specs.declared.Kind.{Kind}
 use Rattle.rates.specs.declared.Certificate.{Certificate}
 use Rattle.rates.specs.declared.Certificate.the-variants.{None, Etii, Qhs}
 use Rattle.rates.specs.declared.Class.the-variants as class
 use Rattle.rates.specs.Rates.{enteredEarly, qhsClass, certifiedClass}
-use Rattle.amounts.specs.Stretches.{Cut, stretchesOf}
-use Rattle.amounts.specs.AmountLaws.{effectiveDay}
+use Rattle.amounts.specs.Stretches.{Cut, changeDays, stretchesOf}
 
 -- ---- the QHS class of a day
 
@@ -43,7 +44,7 @@ qhs-before e kind day h = rw (no-le e day h)
 pub qhs-from : (e : ℕ) (kind : Kind) (day : ℕ) → e ≤ day → certifiedClass (Qhs e) kind day ≡ qhsClass kind day
 qhs-from e kind day h = rw (yes-le e day h)
 
--- ---- a class changes on the effective day and on the day of the new minimum alone
+-- ---- a class changes on the days of change alone
 
 -- that a day has come by is the same of the day before, unless it is that day
 same-side : (d day : ℕ) → (suc day ≡ d → ⊥) → leb d (suc day) ≡ leb d day
@@ -51,12 +52,21 @@ same-side d day n = either (leb d day)
     (λ y. let l : d ≤ day = le-yes d day y in yes-le d (suc day) (omega arith) ∙ sym y)
     (λ f. let l : day < d = le-no d day f in no-le d (suc day) (omega (arith, n)) ∙ sym f)
 
-pub changes : (certificate : Certificate) (kind : Kind) (day : ℕ) → (suc day ≡ effectiveDay certificate → ⊥) → (suc day ≡ newMinimumDay → ⊥)
+qhs-changes : (kind : Kind) (day : ℕ) → All (λ d. suc day ≡ d → ⊥) (cond (enteredEarly kind) [] (newMinimumDay ∷ [])) → qhsClass kind (suc day) ≡ qhsClass kind day
+qhs-changes kind day other = either (enteredEarly kind)
+    (λ t. qhs-early kind (suc day) t ∙ sym (qhs-early kind day t))
+    (λ t. late t (rw t at other))
+  where
+    late : enteredEarly kind ≡ false → (suc day ≡ newMinimumDay → ⊥) × Unit {0} → qhsClass kind (suc day) ≡ qhsClass kind day
+    late t only = either (leb newMinimumDay day)
+        (λ y. let l : newMinimumDay ≤ day = le-yes newMinimumDay day y in qhs-new kind (suc day) t (omega arith) ∙ sym (qhs-new kind day t l))
+        (λ f. let l : day < newMinimumDay = le-no newMinimumDay day f in qhs-old kind (suc day) (omega (arith, only .0)) ∙ sym (qhs-old kind day l))
+
+pub changes : (certificate : Certificate) (kind : Kind) (day : ℕ) → All (λ d. suc day ≡ d → ⊥) (changeDays certificate kind)
     → certifiedClass certificate kind (suc day) ≡ certifiedClass certificate kind day
-unfolding qhsClass
-changes None kind day e m = refl
-changes (Etii effective) kind day e m = rw (same-side effective day e)
-changes (Qhs effective) kind day e m = rw (same-side effective day e, same-side newMinimumDay day m)
+changes None kind day other = refl
+changes (Etii effective) kind day other = rw (same-side effective day (other .0))
+changes (Qhs effective) kind day other = rw (same-side effective day (other .0), qhs-changes kind day (other .1))
 
 -- ---- the stretches of a certificate
 

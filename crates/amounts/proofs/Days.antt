@@ -1,7 +1,7 @@
 -- kWh spread over days: their ends, their differences and their sums. Assumes nothing.
 use mathlib.Core.Path.{_≡_, refl, ap, ap₂, _∙_}
 use Prim.Native.Nat.{ℕ, zero, suc, _+_, _-_, _*_, _/_, _≤_, _<_, zero-le}
-use native.Mathlib.Nat.{mul-le-mul-left, mul-zero, zero-div, div-zero, div-mul-le-self, le-div-iff-mul-le, mul-div-cancel}
+use native.Mathlib.Nat.{mul-le-mul-left, mul-zero, zero-mul, zero-div, div-zero, div-mul-le-self, le-div-iff-mul-le, mul-div-cancel}
 use native.Mathlib.Omega.{arith}
 use Rattle.rates.specs.declared.Class.{Class}
 use Rattle.amounts.specs.Days.{inFirst, between, sumOver, byDay}
@@ -43,7 +43,7 @@ between-last k n a h = omega (arith, in-first-all k n h)
 pub between-all : (k n : ℕ) → 0 < n → between k n 0 n ≡ k
 between-all k n h = between-first k n n ∙ in-first-all k n h
 
--- greater prices give more, and the same classes the same
+-- greater prices give more, the same classes the same, and no kWh nothing
 sum-le : (n : ℕ) (f g : ℕ → ℕ) → ((j : ℕ) → f j ≤ g j) → sumOver n f ≤ sumOver n g
 sum-le zero f g l = zero-le
 sum-le (suc n) f g l = let h : f n ≤ g n = l n in omega (arith, sum-le n f g l)
@@ -51,6 +51,14 @@ sum-le (suc n) f g l = let h : f n ≤ g n = l n in omega (arith, sum-le n f g l
 sum-cong : (n : ℕ) (f g : ℕ → ℕ) → ((j : ℕ) → f j ≡ g j) → sumOver n f ≡ sumOver n g
 sum-cong zero f g e = refl
 sum-cong (suc n) f g e = let h : f n ≡ g n = e n in omega (arith, sum-cong n f g e)
+
+sum-none : (n : ℕ) (f : ℕ → ℕ) → ((j : ℕ) → f j ≡ 0) → sumOver n f ≡ 0
+sum-none zero f e = refl
+sum-none (suc n) f e = let h : f n ≡ 0 = e n in omega (arith, sum-none n f e)
+
+pub by-day-none : (p : Class → ℕ) (n : ℕ) (class : ℕ → Class) → byDay p 0 n class ≡ 0
+unfolding byDay between inFirst
+by-day-none p n class = sum-none n _ (λ j. simp (zero-mul, zero-div))
 
 pub by-day-le : (p q : Class → ℕ) (k n : ℕ) (class : ℕ → Class) → ((c : Class) → p c ≤ q c) → byDay p k n class ≤ byDay q k n class
 unfolding byDay

@@ -1,9 +1,8 @@
 -- A bill over its shares: without shares all of it is under its contract's certificate, and with shares the rest is under none. Assumes
 -- nothing.
-use mathlib.Core.Path.{_≡_, refl, ap, _∙_}
+use mathlib.Core.Path.{_≡_, ap, _∙_}
 use mathlib.Core.Bool.{true, false, not}
-use Prim.Native.Nat.{ℕ, zero, suc, _+_, _-_, _*_, _≤_, _<_}
-use native.Mathlib.Nat.{zero-mul, zero-div}
+use Prim.Native.Nat.{ℕ, _+_, _-_, _*_, _≤_, _<_}
 use native.Mathlib.Omega.{arith}
 use lib.Dec.{eqb}
 use Rattle.basics.specs.Lists.{total}
@@ -13,11 +12,9 @@ use Rattle.rates.specs.declared.Contract.{Contract}
 use Rattle.rates.specs.declared.Certificate.{Certificate}
 use Rattle.rates.specs.declared.Certificate.the-variants.{None, Etii, Qhs}
 use Rattle.rates.specs.declared.Class.{Class}
-use Rattle.rates.specs.declared.Kind.{Kind}
 use Rattle.amounts.specs.declared.Bill.{Bill}
-use Rattle.amounts.specs.Days.{inFirst, between, sumOver, byDay}
 use Rattle.amounts.specs.Amounts.{daysOf, share, hasShares, restCertificate, shares, shareAt, billAt}
-use Rattle.amounts.proofs.Days.{by-day-le}
+use Rattle.amounts.proofs.Days.{by-day-none, by-day-le}
 use Rattle.amounts.proofs.Stretches.{one-price}
 
 -- ---- whether a bill has shares
@@ -49,27 +46,21 @@ pub shares-whole : (contract : Contract) (bill : Bill) → bill .etii + bill .qh
 unfolding shares
 shares-whole contract bill h = omega arith
 
--- ---- a share of no kWh comes to nothing
-
-sum-none : (n : ℕ) (f : ℕ → ℕ) → ((j : ℕ) → f j ≡ 0) → sumOver n f ≡ 0
-sum-none zero f e = refl
-sum-none (suc n) f e = let h : f n ≡ 0 = e n in omega (arith, sum-none n f e)
-
-no-kwh : (price : Class → ℕ) (kind : Kind) (bill : Bill) (c : Certificate) (k : ℕ) → k ≡ 0 → shareAt price kind bill (share k c) ≡ 0
-unfolding shareAt byDay between inFirst
-no-kwh price kind bill c k e =
-    ap (λ (n : ℕ). shareAt price kind bill (share n c)) e ∙ sum-none (daysOf bill) _ (λ j. simp (zero-mul, zero-div))
-
 -- ---- a bill at a price of each class
 
 module _ (price : Class → ℕ) (contract : Contract) (bill : Bill) where
+  -- a share of no kWh comes to nothing
+  no-kwh : (c : Certificate) (k : ℕ) → k ≡ 0 → shareAt price (contract .kind) bill (share k c) ≡ 0
+  unfolding shareAt
+  no-kwh c k e = ap (λ (n : ℕ). shareAt price (contract .kind) bill (share n c)) e ∙ by-day-none price (daysOf bill) _
+
   pub bill-without : hasShares bill ≡ false → billAt price contract bill ≡ shareAt price (contract .kind) bill (share (bill .kwh) (contract .certificate))
   unfolding billAt shares
   bill-without none =
       let given = given-none bill none in
       let whole : bill .kwh - (bill .etii + bill .qhs) ≡ bill .kwh = omega (arith, given .0, given .1) in
       rw (whole, certificate-kept contract bill none)
-      (omega (arith, no-kwh price (contract .kind) bill (Etii 0) (bill .etii) (given .0), no-kwh price (contract .kind) bill (Qhs 0) (bill .qhs) (given .1)))
+      (omega (arith, no-kwh (Etii 0) (bill .etii) (given .0), no-kwh (Qhs 0) (bill .qhs) (given .1)))
 
   pub bill-with : hasShares bill ≡ true
       → billAt price contract bill

@@ -48,36 +48,46 @@ sharesExamples =
     ∷ amountExample Gas Flexible None 511 540 3235000 1294000 1132250 11170 15190 4700 100462925000 127908341500
     ∷ []
 
--- 1,000 kWh over 30 days under an ETII certificate from the first day on, the second, the eleventh (333 kWh before it, 667 from it on), the last,
--- and the day after the last; where the baseline rate answered is 0; with fewer kWh than days; of gas. Under a QHS certificate that begins
--- inside; over day 792, and for fixed contracts entered on day 791 and 792; beginning inside before day 792 (three stretches), the day before it, on
--- it and after it; of gas with the new minimum after a day and on the last. A QHS share across day 792: 3 of 7 kWh in 2 of 4 days, 1 of 4 kWh in the
--- first of 4 days, which is no portion of the 2 kWh that the bill has then; of a fixed contract entered early; with an ETII share and no rest. The
--- most kWh at the highest prices
+-- bills with a change inside, and on either side of it
 unfoldable pub stretchExamples : List AmountExample
 stretchExamples =
+    -- an ETII certificate of a bill of 1,000 kWh over 30 days, from the first day on, the second (33 kWh before it), the eleventh (333), the last (966) and the
+    -- day after the last
     amountExample Electricity Flexible (certificate.Etii 486) 486 515 1000 0 0 31980 67030 67640 67640000 68183000
     ∷ amountExample Electricity Flexible (certificate.Etii 487) 486 515 1000 0 0 31980 67030 17800 65995280 66580091
     ∷ amountExample Electricity Flexible (certificate.Etii 496) 486 515 1000 0 0 31980 67030 17800 51043280 52008191
     ∷ amountExample Electricity Flexible (certificate.Etii 515) 486 515 1000 0 0 31980 67030 17800 19494560 21261482
     ∷ amountExample Electricity Flexible (certificate.Etii 516) 486 515 1000 0 0 31980 67030 17800 17800000 19610000
+    -- where the baseline rate, which is answered, is 0; with fewer kWh than days, none of them in the first four; of gas; over day 792, which changes nothing
     ∷ amountExample Electricity Flexible (certificate.Etii 496) 486 515 1000 0 0 30200 67030 0 41554100 52008191
-    ∷ amountExample Electricity Flexible (certificate.Etii 488) 486 515 7 0 0 31980 67030 17800 473480 477281
+    ∷ amountExample Electricity Flexible (certificate.Etii 490) 486 515 7 0 0 31980 67030 17800 473480 477281
     ∷ amountExample Gas Flexible (certificate.Etii 496) 486 515 1000 0 0 20000 30000 6970 22391707 22391707
+    ∷ amountExample Electricity Flexible (certificate.Etii 511) 782 801 1001 0 0 40000 50000 68183 68251183 68251183
+    -- a QHS certificate that begins inside; one from before on over day 792, whose first ten of twenty days have 500 of 1,001 kWh; the same of fixed contracts,
+    -- of which those entered on day 791 keep the old minimum, whatever their price-fix day
     ∷ amountExample Electricity Flexible (certificate.Qhs 520) 511 540 1000 0 0 35000 58330 19610 176193000 176193000
     ∷ amountExample Electricity Flexible (certificate.Qhs 511) 782 801 1001 0 0 40000 50000 160000 189017600 189017600
     ∷ amountExample Electricity (Fixed 0 791) (certificate.Qhs 511) 782 801 1001 0 0 40000 50000 160000 160160000 160160000
+    ∷ amountExample Electricity (Fixed 800 791) (certificate.Qhs 511) 782 801 1001 0 0 40000 50000 160000 160160000 160160000
     ∷ amountExample Electricity (Fixed 0 792) (certificate.Qhs 511) 782 801 1001 0 0 40000 50000 160000 189017600 189017600
+    ∷ amountExample Electricity (Fixed 791 800) (certificate.Qhs 511) 782 801 1001 0 0 40000 50000 160000 189017600 189017600
+    -- three stretches, of 200, 300 and 501 kWh; with one day of the old minimum; from day 792 on, and from the day after it on, two; three of gas
     ∷ amountExample Electricity Flexible (certificate.Qhs 786) 782 801 1001 0 0 40000 50000 19610 160939600 160939600
     ∷ amountExample Electricity Flexible (certificate.Qhs 791) 782 801 1001 0 0 40000 50000 19610 125842100 125842100
     ∷ amountExample Electricity Flexible (certificate.Qhs 792) 782 801 1001 0 0 40000 50000 19610 118822600 118822600
     ∷ amountExample Electricity Flexible (certificate.Qhs 793) 782 801 1001 0 0 40000 50000 19610 108923100 108923100
+    ∷ amountExample Gas Flexible (certificate.Qhs 790) 788 793 10 0 0 50000 30000 6970 1626010 1626010
+    -- gas with the new minimum from a bill's second day on, and on its last
     ∷ amountExample Gas Flexible (certificate.Qhs 511) 791 794 10 0 0 50000 30000 221700 2323400 2323400
     ∷ amountExample Gas Flexible (certificate.Qhs 511) 788 792 11 0 0 50000 30000 221700 2478600 2478600
+    -- a QHS share across day 792: 3 of 7 kWh in 2 of 4 days; 1 of 4 kWh in the first of 4 days, which is no portion of the 2 kWh that the bill has by then;
+    -- of fixed contracts entered on day 791 and 792; with an ETII share and no rest
     ∷ amountExample Electricity Flexible None 790 793 10 0 7 40000 50000 19610 1409230 1409230
     ∷ amountExample Electricity Flexible (certificate.Etii 791) 791 794 10 3 4 40000 50000 19610 1076179 1076179
     ∷ amountExample Electricity (Fixed 0 791) (certificate.Etii 791) 791 794 10 3 4 40000 50000 19610 903379 903379
+    ∷ amountExample Electricity (Fixed 0 792) (certificate.Etii 791) 791 794 10 3 4 40000 50000 19610 1076179 1076179
     ∷ amountExample Gas Flexible None 791 794 11 6 5 20000 30000 6970 1180546 1342246
+    -- the most kWh at the highest prices
     ∷ amountExample Gas Flexible (certificate.Qhs 700) 690 800 100000000 0 0 999999 999999 6970 902955036137220 902955036137220
     ∷ []
 

@@ -4,39 +4,27 @@ use mathlib.Core.Path.{_≡_}
 use mathlib.Core.List.{List}
 use Prim.Native.Nat.{ℕ, suc, _+_, _-_, _*_, _^_, _<_, _≤_}
 use lib.ListN.{length}
-use Rattle.limits.specs.Limits.{newMinimumDay}
 use Rattle.basics.specs.Lists.{total, All}
 use Rattle.rates.specs.declared.Kind.{Kind}
 use Rattle.rates.specs.declared.Certificate.{Certificate}
-use Rattle.rates.specs.declared.Certificate.the-variants.{None}
-use Rattle.rates.specs.declared.Certificate.the-variants as certificate
 use Rattle.rates.specs.declared.Contract.{Contract}
 use Rattle.rates.specs.declared.Class.{Class}
 use Rattle.rates.specs.declared.Class.the-variants.{Baseline, Etii}
 use Rattle.rates.specs.Rates.{classRate, classCap, qhsClass, certifiedClass, classOf}
 use Rattle.amounts.specs.declared.Bill.{Bill}
 use Rattle.amounts.specs.Days.{byDay}
-use Rattle.amounts.specs.Amounts.{daysOf, shares, billAt, rateOf, amount, cap, rate, Rateable}
-use Rattle.amounts.specs.Stretches.{Stretch, Cut, byStretch, stretchesOf}
+use Rattle.amounts.specs.Amounts.{daysOf, shares, billAt, amount, cap, rate, Rateable}
+use Rattle.amounts.specs.Stretches.{Stretch, Cut, byStretch, changeDays, stretchesOf}
+use Rattle.amounts.specs.EarlierAmount.{earlierAmount}
 
 -- a bill at a price of each class, by the stretches of its shares
-abbrev pub byStretches : (price : Class → ℕ) → Contract → Bill → ℕ
-byStretches price contract bill =
+abbrev pub billByStretches : (price : Class → ℕ) → Contract → Bill → ℕ
+billByStretches price contract bill =
     total (λ s. byStretch price (s .kwh) (daysOf bill) 0 (stretchesOf (s .certificate) (contract .kind) (bill .first) (daysOf bill))) (shares contract bill)
-
--- the day on which a certificate begins; 0, which follows no day, without one
-abbrev pub effectiveDay : Certificate → ℕ
-effectiveDay None = 0
-effectiveDay (certificate.Etii effective) = effective
-effectiveDay (certificate.Qhs effective) = effective
 
 -- a class stays the same from a bill's first day to its last
 abbrev pub NoChangeInside : (class : (day : ℕ) → Class) → Bill → Type 0
 NoChangeInside class bill = (day : ℕ) → bill .first ≤ day → day ≤ bill .last → class day ≡ class (bill .first)
-
--- a bill's amount before paper 3: all of a share's kWh at the rate of its class on the first day
-unfoldable pub earlierAmount : Contract → Bill → ℕ
-earlierAmount contract bill = total (λ s. s .kwh * rateOf contract bill (certifiedClass (s .certificate) (contract .kind) (bill .first))) (shares contract bill)
 
 -- ---- paper 1
 
@@ -65,20 +53,21 @@ pub record StretchesRated : Type 0 where
   -- a share's days are cut so into at most three; so "the amount is the sum over stretches", and the cap is
   pub cut : (certificate : Certificate) (kind : Kind) (first n : ℕ) → Cut n (λ j. certifiedClass certificate kind (first + j)) 0 (stretchesOf certificate kind first n)
   pub at-most-three : (certificate : Certificate) (kind : Kind) (first n : ℕ) → length (stretchesOf certificate kind first n) ≤ 3
-  pub summed : (price : Class → ℕ) (contract : Contract) (bill : Bill) → billAt price contract bill ≡ byStretches price contract bill
-  -- the class of a day is that of the day before, but on the certificate's effective day and on the day of the new minimum
-  pub changes : (certificate : Certificate) (kind : Kind) (day : ℕ) → (suc day ≡ effectiveDay certificate → ⊥) → (suc day ≡ newMinimumDay → ⊥)
+  pub summed : (price : Class → ℕ) (contract : Contract) (bill : Bill) → billAt price contract bill ≡ billByStretches price contract bill
+  -- the class of a day is that of the day before, but on a day of change
+  pub changes : (certificate : Certificate) (kind : Kind) (day : ℕ) → All (λ d. suc day ≡ d → ⊥) (changeDays certificate kind)
       → certifiedClass certificate kind (suc day) ≡ certifiedClass certificate kind day
   -- the kWh of the stretches add up to the bill's
-  pub whole : (contract : Contract) (bill : Bill) → bill .first ≤ bill .last → bill .etii + bill .qhs ≤ bill .kwh → byStretches (λ class. 1) contract bill ≡ bill .kwh
+  pub whole : (contract : Contract) (bill : Bill) → bill .first ≤ bill .last → bill .etii + bill .qhs ≤ bill .kwh → billByStretches (λ class. 1) contract bill ≡ bill .kwh
 
 -- "Bills without a change inside keep their amounts"
 pub record WithoutChangeInside : Type 0 where
-  -- there is none where neither the effective day nor the day of the new minimum lies after the first day and not after the last
-  pub no-day-inside : (certificate : Certificate) (kind : Kind) (bill : Bill) → (bill .first < effectiveDay certificate → bill .last < effectiveDay certificate)
-      → (bill .first < newMinimumDay → bill .last < newMinimumDay) → NoChangeInside (certifiedClass certificate kind) bill
-  -- then the amount is what it was before
-  pub as-before : (contract : Contract) (bill : Bill) → bill .first ≤ bill .last → All (λ s. NoChangeInside (certifiedClass (s .certificate) (contract .kind)) bill) (shares contract bill)
+  -- there is none where no day of change lies after the bill's first day and not after its last
+  pub no-day-inside : (certificate : Certificate) (kind : Kind) (bill : Bill) → All (λ d. bill .first < d → bill .last < d) (changeDays certificate kind)
+      → NoChangeInside (certifiedClass certificate kind) bill
+  -- where none of its shares that has kWh has a change inside, a bill's amount is what it was before
+  pub as-before : (contract : Contract) (bill : Bill) → bill .first ≤ bill .last
+      → All (λ s. 0 < s .kwh → NoChangeInside (certifiedClass (s .certificate) (contract .kind)) bill) (shares contract bill)
       → amount contract bill ≡ earlierAmount contract bill
   -- without shares that is kWh times the rate answered, and the cap is kWh times that of the class
   pub kept : (contract : Contract) (bill : Bill) → bill .first ≤ bill .last → bill .etii ≡ 0 → bill .qhs ≡ 0 → NoChangeInside (classOf contract) bill
@@ -86,7 +75,7 @@ pub record WithoutChangeInside : Type 0 where
   pub cap-kept : (contract : Contract) (bill : Bill) → bill .first ≤ bill .last → bill .etii ≡ 0 → bill .qhs ≡ 0 → NoChangeInside (classOf contract) bill
       → cap contract bill ≡ bill .kwh * classCap (contract .fuel) (classOf contract (bill .first)) (bill .supply)
   -- with shares it is the sum over the three, at any price of each class
-  pub shares-kept : (price : Class → ℕ) (contract : Contract) (bill : Bill) → bill .first ≤ bill .last → 0 < bill .etii + bill .qhs → NoChangeInside (qhsClass (contract .kind)) bill
+  pub shares-kept : (price : Class → ℕ) (contract : Contract) (bill : Bill) → bill .first ≤ bill .last → 0 < bill .etii + bill .qhs → (0 < bill .qhs → NoChangeInside (qhsClass (contract .kind)) bill)
       → billAt price contract bill
       ≡ (bill .kwh - (bill .etii + bill .qhs)) * price Baseline
       + bill .etii * price Etii

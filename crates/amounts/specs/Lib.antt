@@ -3,6 +3,7 @@
 pub mod Days
 pub mod Amounts
 pub mod Stretches
+pub mod EarlierAmount
 pub mod AmountLaws
 pub mod AmountExamples
 pub mod KwhFound

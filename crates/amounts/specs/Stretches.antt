@@ -35,8 +35,14 @@ byStretch price k n a (s ∷ ss) = between k n a (s .end) * price (s .class) + b
 abbrev pub daysBefore : (first n day : ℕ) → ℕ
 daysBefore first n day = min (day - first) n
 
--- the stretches of n days from a first day on under a certificate: cut at the effective day, and of QHS at the day of the new minimum, unless
--- the contract was entered early. One that has no day ends where it begins
+-- the days on which a certificate's class changes: its effective day, and of QHS the day of the new minimum, unless the contract was entered
+-- early
+abbrev pub changeDays : Certificate → Kind → List ℕ
+changeDays None kind = []
+changeDays (certificate.Etii effective) kind = effective ∷ []
+changeDays (certificate.Qhs effective) kind = effective ∷ cond (enteredEarly kind) [] (newMinimumDay ∷ [])
+
+-- the stretches of n days from a first day on under a certificate, cut at these days; one that has no day ends where it begins
 abbrev pub stretchesOf : Certificate → Kind → (first n : ℕ) → List Stretch
 stretchesOf None kind first n = stretch Baseline n ∷ []
 stretchesOf (certificate.Etii effective) kind first n = stretch Baseline (daysBefore first n effective) ∷ stretch Etii n ∷ []

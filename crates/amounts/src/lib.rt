@@ -30,11 +30,11 @@ pub struct Bill {
 }
 
 // A bill's kWh in each class; of QHS, with the old minimum and with the new.
-pub struct KwhByClass {
-    pub baseline: u64,
-    pub etii: u64,
-    pub old: u64,
-    pub new: u64,
+struct KwhByClass {
+    baseline: u64,
+    etii: u64,
+    old: u64,
+    new: u64,
 }
 
 // Whether a bill has an ETII or a QHS share.
@@ -149,7 +149,7 @@ fn shares_by_class(contract: Contract, bill: Bill) -> KwhByClass
     }
 }
 
-// So many kWh of a bill at the rate of a class; none ask for no rate.
+// So many kWh of a bill at the rate of a class, which is worked out only where there are kWh.
 fn at_rate(fuel: Fuel, bill: Bill, class: Class, kwh: u64) -> u64
     requires { ⌜ (kwh ≤ mostKwhStored) × (bill .supply ≤ highestPrice) ⌝ }
     ensures { λ r. ⌜ (r ≡ kwh * classRate fuel class (bill .reference) (bill .supply)) × (r ≤ 10 * highestPrice * kwh) ⌝ }

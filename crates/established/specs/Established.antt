@@ -17,7 +17,7 @@ use Rattle.model.specs.NumberFifteen.{NumberFifteen}
 use Rattle.model.specs.QuarterExample.{QuarterExample}
 use Rattle.model.specs.StoredEarlier.{StoredEarlier}
 use Rattle.model.specs.Postings.{FloorLeavesRest}
-use Rattle.layout.specs.Theorems.{PackedSize, FreshLedger, RoundTrips, ClaimsKept, DemandThree, StoredLedgersBalance, PackedHistoriesHoldTheirFacts, PackedAnswersFromTheSheet, PackedSameAsPostings, NumberTwoFirst, NumberTwoMeetsNoCall}
+use Rattle.layout.specs.Theorems.{PackedSize, FreshLedger, RoundTrips, ClaimsKept, AmountsKept, DemandThree, StoredLedgersBalance, PackedHistoriesHoldTheirFacts, PackedAnswersFromTheSheet, PackedSameAsPostings, NumberTwoFirst, NumberTwoMeetsNoCall}
 use Rattle.layout.specs.LayoutExample.{LayoutExample}
 use Rattle.contract_calls.specs.Start.{StartTests}
 use Rattle.text.specs.Numbers.{NumbersReadBack}
@@ -62,6 +62,7 @@ pub record Established : Type 0 where
   pub quarter-example : QuarterExample
   pub stored-earlier : StoredEarlier
   pub claims-kept : ClaimsKept
+  pub amounts-kept : AmountsKept
   pub packed-histories-hold-their-facts : PackedHistoriesHoldTheirFacts
   -- demand 3: every history balances, and the move from postings
   pub demand-three : DemandThree

@@ -8,15 +8,18 @@ use lib.ListN.{replicate, replicate-append-replicate}
 use Rattle.fields.specs.Field.{value, bitsOf, bytesOfBits}
 use Rattle.fields.specs.Fields.{fieldBits}
 use Rattle.records.specs.Pack.{size, pack}
+use Rattle.basics.specs.Lists.{All}
 use Rattle.model.specs.Ledger.{fresh}
+use Rattle.model.specs.StoredEarlier.{RatedByDay}
+use Rattle.model.proofs.StoredEarlier.{by-day, stored-earlier}
 use Rattle.model.proofs.HoldsFacts.{bytes-hold}
 use Rattle.model.proofs.SheetAnswers.{bytes-answer-from-the-sheet, accepted-claim-leaves-rest}
 use Rattle.model.proofs.Postings.{bytes-same-as-postings}
 use Rattle.model.proofs.BytesBalance.{bytes-balance, bytes-balance-goes-on, bytes-well-formed}
 use Rattle.layout.specs.Layout.{headerBytes, wellFormed, format}
 use Rattle.layout.specs.Offsets.{ledgerLength}
-use Rattle.layout.specs.Present.{rules, layout, Formed, machine}
-use Rattle.layout.specs.Theorems.{PackedSize, FreshLedger, RoundTrips, ClaimsKept, DemandThree, StoredLedgersBalance, PackedHistoriesHoldTheirFacts, PackedAnswersFromTheSheet, PackedSameAsPostings, NumberTwoMeetsNoCall, NumberTwoFirst}
+use Rattle.layout.specs.Present.{rules, layout, Formed, facts, bytes, machine}
+use Rattle.layout.specs.Theorems.{PackedSize, FreshLedger, RoundTrips, ClaimsKept, AmountsKept, DemandThree, StoredLedgersBalance, PackedHistoriesHoldTheirFacts, PackedAnswersFromTheSheet, PackedSameAsPostings, NumberTwoMeetsNoCall, NumberTwoFirst}
 use Rattle.layout.proofs.RoundTrips.{unpacked-packed, well-formed-exactly}
 use Rattle.layout.proofs.Present.{present, format-laws, formed-length, facts-kept, repacked}
 use Rattle.layout.proofs.Changes.{fresh-parts}
@@ -77,3 +80,14 @@ number-two-first = record {
         go : (f : Bool) → wellFormed rules layout b ≡ f → f ≡ false
         go true e = absurd (none e)
         go false e = refl
+
+pub amounts-kept : AmountsKept
+amounts-kept = record {
+  by-day = by-day-rated;
+  refused = λ b none. number-two-first .refused b (λ f. none (by-day-rated b f));
+  unchanged = λ b none. number-two-first .unchanged b (λ f. none (by-day-rated b f));
+  taken = λ l w same. round-trips .formed-exactly (bytes l) .1 (l, stored-earlier .exactly l w .1 same, refl);
+}
+  where
+    by-day-rated : (b : List ℕ) → Formed b → All (RatedByDay (facts b .contracts)) (facts b .rows)
+    by-day-rated b f = by-day (facts b) (facts-kept b f)

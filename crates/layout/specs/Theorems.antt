@@ -4,10 +4,13 @@ use mathlib.Core.List.{List, _∷_}
 use mathlib.Core.Logic.{_↔_}
 use Prim.Native.Nat.{ℕ, _-_, _*_, _≤_}
 use lib.ListN.{length, replicate}
+use Rattle.basics.specs.Lists.{All}
+use Rattle.amounts.specs.EarlierAmount.{earlierAmount}
 use Rattle.model.specs.declared.Answer.the-variants.{Refused}
 use Rattle.model.specs.Calls.{CallWithBook}
 use Rattle.model.specs.Ledger.{Ledger, fresh}
 use Rattle.model.specs.WellFormed.{WellFormed}
+use Rattle.model.specs.StoredEarlier.{rulesWith, RatedByDay}
 use Rattle.model.specs.History.{stateAfter}
 use Rattle.model.specs.Balance.{EveryHistoryBalances, StoredBalanceGoesOn}
 use Rattle.model.specs.HoldsFacts.{EveryHistoryHoldsItsFacts}
@@ -36,6 +39,14 @@ pub record RoundTrips : Type 0 where
 pub record ClaimsKept : Type 0 where
   pub at-most : (b : List ℕ) → Formed b → facts b .claims ≤ 1000
   pub no-pence : (b : List ℕ) → Formed b → facts b .claims ≡ 0 → facts b .pence ≡ 0
+
+-- "the amount is kWh times rate", by day: of each row of a well-formed ledger; bytes with a held row whose amount isn't that are turned down by
+-- number 2, whatever the call, and no byte is changed; a ledger stored earlier whose amounts are those by day is well formed
+pub record AmountsKept : Type 0 where
+  pub by-day : (b : List ℕ) → Formed b → All (RatedByDay (facts b .contracts)) (facts b .rows)
+  pub refused : (b : List ℕ) → (All (RatedByDay (facts b .contracts)) (facts b .rows) → ⊥) → (c : CallWithBook) → machine .answer b c ≡ Refused 2
+  pub unchanged : (b : List ℕ) → (All (RatedByDay (facts b .contracts)) (facts b .rows) → ⊥) → (c : CallWithBook) → machine .step b c ≡ b
+  pub taken : (l : Ledger) → WellFormed (rulesWith earlierAmount) l → All (RatedByDay (l .contracts)) (l .rows) → Formed (bytes l)
 
 -- demand 3, on the bytes: every history balances, with due the sum of the amounts, by the rates, of the sheet's standing bills; and a claim
 -- that the sheet accepts as the last call leaves 0 to 9,999

@@ -10,7 +10,7 @@ use Rattle.rates.specs.declared.Kind.the-variants.{Fixed, Variable, Flex
 use Rattle.rates.specs.declared.Certificate.{Certificate}
 use Rattle.rates.specs.declared.Certificate.the-variants.{None, Etii, Qhs}
 use Rattle.rates.specs.Rates.{classRate, qhsClass, classCap}
-use Rattle.rates.specs.TwelveRates.{Example, example, classIn, rated}
+use Rattle.rates.specs.TwelveRates.{Example, example, billClass, rated}
 
 -- the examples have the rates given
 abbrev pub RatesGiven : List Example → Type 0
@@ -20,7 +20,7 @@ RatesGiven es = map rated es ≡ map (λ e. e .ticks) es
 
 -- the cap of an example's class
 unfoldable pub capIn : Example → ℕ
-capIn e = classCap (e .fuel) (classIn e) (e .S)
+capIn e = classCap (e .fuel) (billClass e) (e .S)
 
 -- "baseline 19,610 electricity and 6,970 gas; ETII 68,183 and 30,091; QHS 10 times max(S − QHS minimum, 0)"
 unfoldable pub caps : List Example
@@ -65,7 +65,7 @@ DiscountsBegin = RatesGiven firstDiscounts
 -- ---- classes
 
 -- a bill that begins the day before the effective day is baseline, and one that begins on it is of the class; of QHS R, where it is the
--- lesser; the new minimum from day 792 on, except to a fixed contract entered before it
+-- lesser; the new minimum from day 792 on, except to a fixed contract entered before it, whatever its price-fix day
 unfoldable pub classes : List Example
 classes =
     example Electricity Flexible (Etii 487) 486 35000 58330 19610
@@ -79,6 +79,9 @@ classes =
     ∷ example Gas (Fixed 0 792) (Qhs 511) 792 40000 20000 135000
     ∷ example Electricity (Fixed 0 792) (Qhs 511) 791 40000 50000 160000
     ∷ example Electricity (Fixed 0 792) (Qhs 511) 792 40000 50000 217600
+    ∷ example Electricity (Fixed 800 791) (Qhs 511) 801 40000 50000 160000
+    ∷ example Electricity (Fixed 791 800) (Qhs 511) 792 40000 50000 217600
+    ∷ example Electricity (Fixed 791 800) (Qhs 511) 851 40000 50000 217600
     ∷ example Electricity Variable (Qhs 511) 792 40000 50000 217600
     ∷ example Electricity Index (Qhs 511) 792 40000 50000 217600
     ∷ []

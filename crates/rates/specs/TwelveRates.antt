@@ -29,11 +29,11 @@ example f k c d R S t = record { fuel = f; kind = k; certificate = c; first = d;
 unfoldable pub contractIn : Example → Contract
 contractIn e = record { fuel = e .fuel; kind = e .kind; certificate = e .certificate }
 
-unfoldable pub classIn : Example → Class
-classIn e = classOf (contractIn e) (e .first)
+unfoldable pub billClass : Example → Class
+billClass e = classOf (contractIn e) (e .first)
 
 unfoldable pub rated : Example → ℕ
-rated e = classRate (e .fuel) (classIn e) (e .R) (e .S)
+rated e = classRate (e .fuel) (billClass e) (e .R) (e .S)
 
 -- P1 to P12, in their order
 unfoldable pub examples : List Example
