@@ -6,7 +6,7 @@ use Prim.Native.Nat.{ℕ}
 use Rattle.rates.specs.declared.Fuel.{Fuel}
 use Rattle.rates.specs.declared.Fuel.the-variants.{Electricity, Gas}
 use Rattle.rates.specs.declared.Kind.{Kind}
-use Rattle.rates.specs.declared.Kind.the-variants.{Fixed, Flexible}
+use Rattle.rates.specs.declared.Kind.the-variants.{Fixed, Variable, Flexible, Index}
 use Rattle.rates.specs.declared.Certificate.{Certificate}
 use Rattle.rates.specs.declared.Certificate.the-variants.{None}
 use Rattle.rates.specs.declared.Certificate.the-variants as certificate
@@ -87,6 +87,16 @@ stretchExamples =
     ∷ amountExample Electricity (Fixed 0 791) (certificate.Etii 791) 791 794 10 3 4 40000 50000 19610 903379 903379
     ∷ amountExample Electricity (Fixed 0 792) (certificate.Etii 791) 791 794 10 3 4 40000 50000 19610 1076179 1076179
     ∷ amountExample Gas Flexible None 791 794 11 6 5 20000 30000 6970 1180546 1342246
+    -- certificates that begin after day 792, of each kind
+    ∷ amountExample Electricity Flexible (certificate.Etii 800) 792 811 1001 0 0 40000 50000 19610 48821983 48821983
+    ∷ amountExample Gas (Fixed 0 791) (certificate.Etii 830) 821 851 1000 0 0 20000 30000 6970 23385910 23385910
+    ∷ amountExample Electricity Variable (certificate.Etii 800) 792 811 1001 0 0 40000 50000 19610 48821983 48821983
+    ∷ amountExample Electricity Index (certificate.Qhs 830) 821 851 1000 0 0 40000 50000 19610 160182900 160182900
+    -- S below a QHS minimum: the old one, so that the discount begins on day 792; both gas minimums on either side of it; and far above them
+    ∷ amountExample Electricity Flexible (certificate.Qhs 511) 782 801 1001 0 0 40000 30000 0 8817600 8817600
+    ∷ amountExample Gas Flexible (certificate.Qhs 786) 782 801 1001 0 0 20000 7000 0 2505000 3899000
+    ∷ amountExample Electricity Flexible (certificate.Qhs 520) 511 540 1000 0 0 90000 80000 19610 327883000 327883000
+    ∷ amountExample Electricity Flexible (certificate.Qhs 511) 782 801 1001 0 0 999999 999999 9659990 9698507590 9698507590
     -- the most kWh at the highest prices
     ∷ amountExample Gas Flexible (certificate.Qhs 700) 690 800 100000000 0 0 999999 999999 6970 902955036137220 902955036137220
     ∷ []

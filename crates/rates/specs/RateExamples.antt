@@ -2,7 +2,7 @@
 -- nothing.
 use mathlib.Core.Path.{_≡_}
 use mathlib.Core.List.{List, [], _∷_, _++_, map}
-use Prim.Native.Nat.{ℕ, _+_}
+use Prim.Native.Nat.{ℕ, _+_, _-_}
 use Rattle.rates.specs.declared.Fuel.{Fuel}
 use Rattle.rates.specs.declared.Fuel.the-variants.{Electricity, Gas}
 use Rattle.rates.specs.declared.Kind.{Kind}
@@ -53,11 +53,22 @@ fromPrice fuel certificate price ticks =
     ∷ example fuel Flexible certificate 486 90000 (price + 1) ticks
     ∷ []
 
--- baseline 30,200 and 10,700; ETII 18,500 and 9,900
+-- of QHS on a day, with S a mil below the minimum, at it, a mil above it, and the highest: there is no maximum
+abbrev pub fromMinimum : Fuel → (first minimum highest : ℕ) → List Example
+fromMinimum fuel first minimum highest =
+    example fuel Flexible (Qhs 511) first 999999 (minimum - 1) 0
+    ∷ example fuel Flexible (Qhs 511) first 999999 minimum 0
+    ∷ example fuel Flexible (Qhs 511) first 999999 (minimum + 1) 10
+    ∷ example fuel Flexible (Qhs 511) first 999999 999999 highest
+    ∷ []
+
+-- baseline 30,200 and 10,700; ETII 18,500 and 9,900; QHS 34,000 and 7,830, and from day 792 on 28,240 and 6,500
 unfoldable pub firstDiscounts : List Example
 firstDiscounts =
     fromPrice Electricity None 30200 10 ++ (fromPrice Gas None 10700 10
-    ++ (fromPrice Electricity (Etii 486) 18500 7 ++ fromPrice Gas (Etii 486) 9900 7))
+    ++ (fromPrice Electricity (Etii 486) 18500 7 ++ (fromPrice Gas (Etii 486) 9900 7
+    ++ (fromMinimum Electricity 791 34000 9659990 ++ (fromMinimum Gas 791 7830 9921690
+    ++ (fromMinimum Electricity 792 28240 9717590 ++ fromMinimum Gas 792 6500 9934990))))))
 
 abbrev pub DiscountsBegin : Type 0
 DiscountsBegin = RatesGiven firstDiscounts
