@@ -13,7 +13,7 @@ use Rattle.rates.specs.declared.Certificate.{Certificate}
 use Rattle.rates.specs.declared.Certificate.the-variants.{None, Etii, Qhs}
 use Rattle.rates.specs.declared.Class.{Class}
 use Rattle.amounts.specs.declared.Bill.{Bill}
-use Rattle.amounts.specs.Amounts.{daysOf, share, hasShares, restCertificate, shares, shareAt, billAt}
+use Rattle.amounts.specs.Amounts.{daysOf, share, hasShares, restCertificate, shares, shareAt, billAt, amount}
 use Rattle.amounts.proofs.Days.{by-day-none, by-day-le}
 use Rattle.amounts.proofs.Stretches.{one-price}
 
@@ -39,6 +39,11 @@ certificate-kept contract bill none = rw none
 pub set-aside : (contract : Contract) (bill : Bill) → hasShares bill ≡ true → restCertificate contract bill ≡ None
 unfolding restCertificate
 set-aside contract bill some = rw some
+
+-- so that the amount is that under any other certificate
+pub amount-set-aside : (contract other : Contract) (bill : Bill) → hasShares bill ≡ true → contract .fuel ≡ other .fuel → contract .kind ≡ other .kind → amount contract bill ≡ amount other bill
+unfolding amount billAt shares restCertificate
+amount-set-aside contract other bill some fuel kind = rw (some, fuel, kind)
 
 -- ---- the shares have all of a bill's kWh
 

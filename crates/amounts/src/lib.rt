@@ -38,7 +38,7 @@ struct KwhByClass {
 }
 
 // Whether a bill has an ETII or a QHS share.
-fn has_shares(bill: Bill) -> bool
+pub fn has_shares(bill: Bill) -> bool
     ensures { λ r. ⌜ r ≡ hasShares bill ⌝ }
 {
     if bill.etii == 0 {
@@ -184,8 +184,16 @@ pub fn amount(contract: Contract, bill: Bill) -> u64
     at_rates(contract, bill, whole_by_class(contract, bill))
 }
 
-// Whether a bill's amount is the one given. The check asks it of every row and is its one caller: LLVM inlines a function with one caller
-// whatever its size, and `amount` has several.
+// The amount of a bill without shares. A certificate asks it of each of its contract's rows and is its one caller: LLVM inlines a function
+// with one caller whatever its size, and `amount` has several.
+pub fn whole_amount(contract: Contract, bill: Bill) -> u64
+    requires { ⌜ Rateable bill × (hasShares bill ≡ false) ⌝ }
+    ensures { λ r. ⌜ r ≡ amount contract bill ⌝ }
+{
+    at_rates(contract, bill, whole_by_class(contract, bill))
+}
+
+// Whether a bill's amount is the one given. The check asks it of every row and is its one caller, too.
 pub fn is_amount(contract: Contract, bill: Bill, given: u64) -> bool
     requires { ⌜ Rateable bill ⌝ }
     ensures { λ r. ⌜ r ≡ eqb given (amount contract bill) ⌝ }

@@ -1,10 +1,11 @@
 -- A list whose first n elements are mapped, as a loop that rewrites each place leaves it after n turns. Assumes nothing.
-use mathlib.Core.Path.{_≡_, refl, sym, ap, _∙_}
+use mathlib.Core.Path.{_≡_, refl, sym, ap, ap₂, _∙_}
 use mathlib.Core.List.{List, [], _∷_, map}
 use Prim.Native.Nat.{ℕ, zero, suc, _+_, _<_}
 use native.Mathlib.Nat.{not-suc-le-zero, le-of-suc-le-suc}
 use native.Mathlib.Numerals.{add-one}
-use lib.ListN.{length, getD, set}
+use lib.ListN.{length, drop, getD, set}
+use Rattle.basics.specs.Lists.{All}
 
 module _ {A : Type 0} (f : A → A) where
   abbrev pub firstMapped : ℕ → List A → List A
@@ -15,6 +16,13 @@ module _ {A : Type 0} (f : A → A) where
   pub first-all : (xs : List A) → firstMapped (length xs) xs ≡ map f xs
   first-all [] = refl
   first-all (x ∷ xs) = ap (λ (ys : List A). f x ∷ ys) (first-all xs)
+
+  -- and so it is where the others stay as they are
+  pub first-rest : (n : ℕ) (xs : List A) → All (λ x. f x ≡ x) (drop n xs) → firstMapped n xs ≡ map f xs
+  first-rest zero [] a = refl
+  first-rest zero (x ∷ xs) a = sym (ap₂ _∷_ (a .0) (sym (first-rest zero xs (a .1))))
+  first-rest (suc n) [] a = refl
+  first-rest (suc n) (x ∷ xs) a = ap (λ (ys : List A). f x ∷ ys) (first-rest n xs a)
 
   pub length-first : (n : ℕ) (xs : List A) → length (firstMapped n xs) ≡ length xs
   length-first zero xs = refl

@@ -24,8 +24,6 @@ use Rattle.model.proofs.StaysWellFormed.{new-row}
 use Rattle.layout.specs.Layout.{ledgerOf}
 use Rattle.layout.specs.Present.{Formed, Searched, rules, facts, contracts}
 use Rattle.layout.proofs.Present.{present, facts-kept}
-use Rattle.ledger.specs.declared.rows.RowTest.the-variants.{Named}
-use Rattle.ledger.specs.Rows.{rowPasses}
 use Rattle.ledger.specs.Answered.{viewOf, Answered, AnsweredWithAnyBook}
 use Rattle.ledger.proofs.Refusals.{open-refused, open-passed, fits, passes, refused-answered, accepted-answered}
 use Rattle.bill_refusals.specs.declared.Requested.{Requested}
@@ -178,7 +176,7 @@ module _ (b : List ℕ) (rows contract first n : ℕ) (s : Searched b rows) (e :
   unfolding refusal tests
   cancel-refused some book = refused-answered b _ n (s .formed) (open-refused (viewOf b) contract n last-test e some) some
 
-  module _ (none : n ≡ 0) (i : ℕ) (at : i ≡ placeOf (rowPasses (Named contract first)) (facts b .rows)) where
+  module _ (none : n ≡ 0) (i : ℕ) (at : i ≡ placeOf (named contract first) (facts b .rows)) where
     pub no-row-refused : rows ≤ i → AnsweredWithAnyBook b (Call.Cancel contract first) (Refused 9) b
     unfolding refusal tests
     no-row-refused h book = refused-answered b _ 9 (s .formed) (open-passed (viewOf b) contract n last-test e 9 none (fits _ 9 0 (no-row b rows s _ i at h))) (λ z. omega arith)

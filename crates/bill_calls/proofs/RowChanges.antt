@@ -18,7 +18,7 @@ use Rattle.model.specs.declared.Row.{Row}
 use Rattle.model.specs.declared.Answer.the-variants.{Billed, Rebilled, Cancelled}
 use Rattle.model.specs.Contracts.{Contracts}
 use Rattle.model.specs.Calls.{named}
-use Rattle.model.specs.Ledger.{sortsAfter, amountOf, priced, withRows}
+use Rattle.model.specs.Ledger.{comesAfter, sortsAfter, amountOf, priced, withRows}
 use Rattle.model.specs.WellFormed.{RowOk}
 use Rattle.model.proofs.PresentRules.{bill-ranges}
 use Rattle.model.proofs.Places.{place-le, insert-at, remove-at, replace-at, amount-at}
@@ -30,10 +30,9 @@ use Rattle.layout.proofs.Present.{present, formed-length, repacked}
 use Rattle.layout.proofs.HeldRows.{rows-most, row-held}
 use Rattle.edits.specs.RowEdits.{Insertable, Replaceable, Removable}
 use Rattle.edits.proofs.PackedChanges.{inserted-row, removed-row, replaced-row}
-use Rattle.ledger.specs.declared.rows.RowTest.the-variants.{After}
-use Rattle.ledger.specs.Rows.{rowPasses}
 use Rattle.ledger.proofs.RowNumbers.{row-amount-low}
-use Rattle.bill_calls.specs.Rows.{RowHeld, NewRow, RowAgain, Changed, billed, rowAdded, rebilled, rowReplaced, cancelled, rowRemoved}
+use Rattle.bill_refusals.specs.Requests.{RowHeld}
+use Rattle.bill_calls.specs.Rows.{NewRow, RowAgain, Changed, billed, rowAdded, rebilled, rowReplaced, cancelled, rowRemoved}
 
 -- the row that is made of a bill and its amount
 abbrev made : Bill → ℕ → Row
@@ -64,7 +63,7 @@ searched-length b rows s = formed-length b (s .formed)
 
 module _ (b : List ℕ) (rows place : ℕ) (k : Contract) (x : Bill) (new : NewRow b rows place k x) (a : ℕ) (e : a ≡ amount k x) where
   place-inside : place ≤ rows
-  place-inside = omega (arith, new .at, new .searched .count, place-le (rowPasses (After (x .contract) (x .first))) (facts b .rows))
+  place-inside = omega (arith, new .at, new .searched .count, place-le (comesAfter (x .contract) (x .first)) (facts b .rows))
 
   pub insertable : Insertable b rows place (made x a)
   insertable = record { long = searched-length b rows (new .searched); inside = place-inside; room = new .room; fits = made-fits (contracts b) k x (new .row) a e }

@@ -11,24 +11,17 @@ use Rattle.amounts.specs.Amounts.{rate, amount}
 use Rattle.model.specs.declared.Answer.{Answer}
 use Rattle.model.specs.declared.Answer.the-variants.{Billed, Rebilled, Cancelled}
 use Rattle.model.specs.Calls.{named}
-use Rattle.model.specs.Ledger.{Ledger, insert, replace, remove, amountOf, priced, withRows}
+use Rattle.model.specs.Ledger.{Ledger, comesAfter, insert, replace, remove, amountOf, priced, withRows}
 use Rattle.model.specs.Places.{placeOf}
 use Rattle.model.specs.WellFormed.{RowOk}
 use Rattle.layout.specs.Present.{Searched, rules, facts, contracts, bytes}
-use Rattle.ledger.specs.declared.rows.RowTest.the-variants.{Named, After}
-use Rattle.ledger.specs.Rows.{rowPasses}
-
--- the row with that contract and first day is held, at that place
-pub record RowHeld (b : List ℕ) (rows place contract first : ℕ) : Type 0 where
-  pub searched : Searched b rows
-  pub at : place ≡ placeOf (rowPasses (Named contract first)) (facts b .rows)
-  pub held : place < rows
+use Rattle.bill_refusals.specs.Requests.{RowHeld}
 
 -- the row of a bill keeps what a well-formed ledger asks, and there is room for it at that place
 pub record NewRow (b : List ℕ) (rows place : ℕ) (k : Contract) (x : Bill) : Type 0 where
   pub searched : Searched b rows
   pub row : RowOk rules (contracts b) (priced rules k x)
-  pub at : place ≡ placeOf (rowPasses (After (x .contract) (x .first))) (facts b .rows)
+  pub at : place ≡ placeOf (comesAfter (x .contract) (x .first)) (facts b .rows)
   pub room : rows < rowCount
 
 -- the row of a bill keeps what a well-formed ledger asks, and one with its contract and first day is held at that place

@@ -7,8 +7,7 @@ use bill_refusals::new_place;
 use bill_refusals::place_again;
 use bill_refusals::requested_bill;
 use ledger::contracts::refused_contract;
-use ledger::rows::RowTest;
-use ledger::rows::find_row;
+use ledger::rows::place_named;
 use model::Answer;
 use model::Request;
 use rows::add_row;
@@ -64,8 +63,7 @@ pub fn cancel(ledger: &mut [u8], rows: usize, contract: u32, first: u32) -> Answ
     if refused != 0 {
         return Answer::Refused(refused);
     }
-    let row = RowTest::Named { contract, first };
-    let place = find_row(ledger, rows, row);
+    let place = place_named(ledger, rows, contract, first);
     if rows <= place {
         return Answer::Refused(9);
     }

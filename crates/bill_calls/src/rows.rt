@@ -8,7 +8,8 @@ use model::Row;
 use rates::Contract;
 use signed::difference;
 ghost use Rattle.layout.specs.Present.{facts};
-ghost use Rattle.bill_calls.specs.Rows.{NewRow, RowAgain, RowHeld, Changed, billed, rowAdded, rebilled, rowReplaced, cancelled, rowRemoved};
+ghost use Rattle.bill_refusals.specs.Requests.{RowHeld};
+ghost use Rattle.bill_calls.specs.Rows.{NewRow, RowAgain, Changed, billed, rowAdded, rebilled, rowReplaced, cancelled, rowRemoved};
 
 // The row of a bill that is new.
 pub fn add_row(

@@ -1,9 +1,12 @@
 -- What is requested and where its row is placed, by the first test that fits; and what each outcome says of the tests. Assumes nothing.
 use mathlib.Core.Path.{_≡_, sym, ap, ap₂, _∙_}
-use mathlib.Core.Bool.{Bool, true, false, not}
+use mathlib.Core.Bool.{Bool, true, false, not, _&&_}
 use mathlib.Core.List.{List}
-use Prim.Native.Nat.{ℕ, zero, suc, _≤_, _<_}
+use Prim.Native.Nat.{ℕ, zero, suc, _+_, _≤_, _<_}
+use native.Mathlib.Numerals.{add-one}
+use native.Mathlib.Omega.{arith}
 use lib.Dec.{ltb, leb}
+use lib.ListN.{drop}
 use borrow.Author.Tests.{ltb-true, le-leb, lt-leb, le-ltb, lt-ltb}
 use Rattle.limits.specs.Limits.{rowCount}
 use Rattle.basics.proofs.Lists.{count-true}
@@ -11,19 +14,21 @@ use Rattle.rates.specs.declared.Contract.{Contract}
 use Rattle.amounts.specs.declared.Bill.{Bill}
 use Rattle.model.specs.declared.Request.{Request}
 use Rattle.model.specs.Contracts.{contractAt}
-use Rattle.model.specs.Calls.{View, firstOf, billUnder, requestedBill}
+use Rattle.model.specs.Calls.{View, named, sharing, firstOf, billUnder, requestedBill}
 use Rattle.model.specs.Ledger.{view}
 use Rattle.model.specs.Rules.{unlessRefused}
 use Rattle.model.specs.PresentRules.{badMonths, badAmounts, noPrice, requestTests}
-use Rattle.model.specs.Places.{placeOf}
+use Rattle.model.specs.Places.{placeOf, firstPasses, reaches}
 use Rattle.model.proofs.Places.{count-at}
+use Rattle.model.proofs.SortedRows.{shares-at, named-found, others-share}
 use Rattle.layout.specs.Layout.{ledgerOf}
 use Rattle.layout.specs.Present.{Searched, facts, contracts}
 use Rattle.ledger.specs.Answered.{viewOf}
+use Rattle.ledger.proofs.Search.{spans, apart}
 use Rattle.ledger.proofs.Refusals.{refusals, open-refused, open-passed}
 use Rattle.bill_refusals.specs.declared.Requested.{Requested}
 use Rattle.bill_refusals.specs.declared.Placed.{Placed}
-use Rattle.bill_refusals.specs.Requests.{requestedOf, placed}
+use Rattle.bill_refusals.specs.Requests.{requestedOf, placed, RowHeld}
 
 -- ---- a request
 
@@ -78,6 +83,25 @@ module _ (b : List ℕ) (rows : ℕ) (s : Searched b rows) where
 
   pub not-full : rows < rowCount → leb rowCount (viewOf b .held (λ x. true)) ≡ false
   not-full h = rw held-all (lt-leb rowCount rows h)
+
+  -- a row shares a day with a span just where the first that reaches the span's first day does
+  pub day-shared : (contract first last place : ℕ) → place ≡ placeOf (reaches contract first) (facts b .rows)
+      → (r : Bool) → r ≡ firstPasses (sharing contract first last) (drop place (facts b .rows)) → r ≡ ltb 0 (viewOf b .held (sharing contract first last))
+  unfolding view
+  day-shared contract first last place at r e =
+      e ∙ ap (λ (n : ℕ). firstPasses (sharing contract first last) (drop n (facts b .rows))) at ∙ sym (shares-at contract first last (facts b .rows) (spans b rows s) (apart b rows s))
+
+-- another row than the one named does just where the next one does
+pub other-shared : (b : List ℕ) (rows place contract first last : ℕ) → RowHeld b rows place contract first
+    → (r : Bool) → r ≡ firstPasses (sharing contract first last) (drop (place + 1) (facts b .rows))
+    → r ≡ ltb 0 (viewOf b .held (λ x. sharing contract first last x && not (named contract first x)))
+unfolding view
+other-shared b rows place contract first last h r e =
+    let s = h .searched in
+    let found = named-found contract first (facts b .rows) (spans b rows s) (apart b rows s) (omega (arith, h .at, h .held, s .count)) in
+    e
+    ∙ ap (λ (n : ℕ). firstPasses (sharing contract first last) (drop n (facts b .rows))) (add-one place ∙ ap suc (h .at ∙ found .0))
+    ∙ sym (others-share contract first last (facts b .rows) (spans b rows s) (apart b rows s) (found .1))
 
 -- ---- the contract that a request names, and what was found of it
 

@@ -2,8 +2,10 @@
 use amounts::Bill;
 use ledger::contracts::contract_at;
 use ledger::contracts::refused_contract;
-use ledger::rows::RowTest;
-use ledger::rows::find_row;
+use ledger::rows::first_reaching;
+use ledger::rows::place_named;
+use ledger::rows::place_of_new;
+use ledger::rows::row_shares;
 use limits::ROW_COUNT;
 use model::Request;
 use rates::Contract;
@@ -15,11 +17,12 @@ use rules::ranges::bad_months;
 use rules::ranges::bad_shares;
 use rules::ranges::bad_span;
 ghost use mathlib.Core.Path.{_≡_};
+ghost use mathlib.Core.Bool.{not, _&&_};
 ghost use lib.Dec.{ltb};
+ghost use Rattle.model.specs.Calls.{named, sharing};
 ghost use Rattle.layout.specs.Present.{Formed, Searched};
-ghost use Rattle.ledger.specs.Rows.{rowPasses};
 ghost use Rattle.ledger.specs.Answered.{viewOf};
-ghost use Rattle.bill_refusals.specs.Requests.{requestedOf, BillOf, newPlaceOf, placeAgainOf};
+ghost use Rattle.bill_refusals.specs.Requests.{requestedOf, BillOf, RowHeld, newPlaceOf, placeAgainOf};
 
 // What a bill or rebill asks for: the number that turns it down, or its bill and the contract of that bill.
 pub enum Requested {
@@ -63,12 +66,28 @@ pub fn requested_bill(b: &[u8], book: &[u32], request: Request) -> Requested
     Requested::Bill { contract, bill }
 }
 
-// Whether a held row passes the test.
-fn any_row(b: &[u8], rows: usize, test: RowTest) -> bool
+// Whether a held row of the contract shares a day with the span: of the rows that reach its first day the first does, or none.
+fn shares_day(b: &[u8], rows: usize, contract: u32, first: u32, last: u32) -> bool
     requires { ⌜ Searched (now b) rows ⌝ }
-    ensures { λ r. ⌜ r ≡ ltb 0 (viewOf (now (b .entry)) .held (rowPasses test)) ⌝ }
+    ensures { λ r. ⌜ r ≡ ltb 0 (viewOf (now (b .entry)) .held (sharing contract first last)) ⌝ }
 {
-    find_row(b, rows, test) < rows
+    let place = first_reaching(b, rows, contract, first);
+    row_shares(b, rows, place, contract, first, last)
+}
+
+// Whether another held row than the one with that contract and first day shares a day with the span: only the next row can.
+fn other_shares_day(
+    b: &[u8],
+    rows: usize,
+    place: usize,
+    contract: u32,
+    first: u32,
+    last: u32,
+) -> bool
+    requires { ⌜ RowHeld (now b) rows place contract first ⌝ }
+    ensures { λ r. ⌜ r ≡ ltb 0 (viewOf (now (b .entry)) .held (λ x. sharing contract first last x && not (named contract first x))) ⌝ }
+{
+    row_shares(b, rows, place + 1, contract, first, last)
 }
 
 // Refusals 10 to 12 of a bill, or the place of its row: before the first that sorts after it.
@@ -76,12 +95,7 @@ pub fn new_place(b: &[u8], rows: usize, contract: Contract, bill: Bill) -> Place
     requires { ⌜ BillOf (now b) rows contract bill ⌝ }
     ensures { λ r. ⌜ r ≡ newPlaceOf (now (b .entry)) bill ⌝ }
 {
-    let span = RowTest::Sharing {
-        contract: bill.contract,
-        first: bill.first,
-        last: bill.last,
-    };
-    if any_row(b, rows, span) {
+    if shares_day(b, rows, bill.contract, bill.first, bill.last) {
         return Placed::Refused(10);
     }
     let kind = contract.kind;
@@ -91,11 +105,7 @@ pub fn new_place(b: &[u8], rows: usize, contract: Contract, bill: Bill) -> Place
     if ROW_COUNT <= rows {
         return Placed::Refused(12);
     }
-    let after = RowTest::After {
-        contract: bill.contract,
-        first: bill.first,
-    };
-    Placed::At(find_row(b, rows, after))
+    Placed::At(place_of_new(b, rows, bill.contract, bill.first))
 }
 
 // Refusals 9 to 11 of a rebill, or the place of the row with its contract and first day.
@@ -103,20 +113,11 @@ pub fn place_again(b: &[u8], rows: usize, contract: Contract, bill: Bill) -> Pla
     requires { ⌜ BillOf (now b) rows contract bill ⌝ }
     ensures { λ r. ⌜ r ≡ placeAgainOf (now (b .entry)) bill ⌝ }
 {
-    let row = RowTest::Named {
-        contract: bill.contract,
-        first: bill.first,
-    };
-    let place = find_row(b, rows, row);
+    let place = place_named(b, rows, bill.contract, bill.first);
     if rows <= place {
         return Placed::Refused(9);
     }
-    let others = RowTest::SharingOther {
-        contract: bill.contract,
-        first: bill.first,
-        last: bill.last,
-    };
-    if any_row(b, rows, others) {
+    if other_shares_day(b, rows, place, bill.contract, bill.first, bill.last) {
         return Placed::Refused(10);
     }
     let kind = contract.kind;

@@ -36,7 +36,7 @@ fn perform_checked(ledger: &mut [u8], rows: usize, due: u64, book: &[u32], call:
             contract,
             class,
             effective_day,
-        } => cert(ledger, rows, due, contract, class, effective_day),
+        } => cert(ledger, rows, contract, class, effective_day),
         Call::Cancel { contract, first } => cancel(ledger, rows, contract, first),
         Call::Claim => claim(ledger, rows, due),
         Call::Report { contract } => checked_report(ledger, rows, contract),

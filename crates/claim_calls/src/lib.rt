@@ -3,6 +3,7 @@ use codec::header::write_header;
 use layout::Checked;
 use ledger::check::check;
 use ledger::contracts::refused_contract;
+use ledger::rows::first_reaching;
 use ledger::rows::row_at;
 use limits::MOST_CLAIMS;
 use limits::TICKS_PER_PENNY;
@@ -10,6 +11,8 @@ use model::Answer;
 use signed::difference;
 ghost use mathlib.Core.Path.{_≡_};
 ghost use mathlib.Core.List.{[]};
+ghost use Prim.Native.Nat.{_<_};
+ghost use Rattle.limits.specs.Limits.{contractCount};
 ghost use Rattle.model.specs.declared.Call.{Call};
 ghost use Rattle.model.specs.Calls.{_with_};
 ghost use Rattle.model.specs.Ledger.{accept};
@@ -36,23 +39,22 @@ pub fn claim(ledger: &mut [u8], rows: usize, due: u64) -> Answer
     }
 }
 
-// The answer of a report that nothing turns down: the sums over the held rows of the contract.
+// The answer of a report that nothing turns down: the sums over the held rows of the contract, which stand together.
 fn accepted_report(ledger: &[u8], rows: usize, contract: u32) -> Answer
-    requires { ⌜ Searched (now ledger) rows ⌝ }
+    requires { ⌜ Searched (now ledger) rows × (contract < contractCount) ⌝ }
     ensures { λ r. ⌜ r ≡ accept rules (facts (now (ledger .entry))) (Call.Report contract with []) .answers ⌝ }
 {
     let mut count: u32 = 0;
     let mut kwh: u64 = 0;
     let mut due: u64 = 0;
-    let mut i: usize = 0;
-    while i < rows {
+    let mut i = first_reaching(ledger, rows, contract, 0);
+    let end = first_reaching(ledger, rows, contract + 1, 0);
+    while i < end {
         let row = row_at(ledger, i);
         let bill = row.bill;
-        if bill.contract == contract {
-            count += 1;
-            kwh += bill.kwh as u64;
-            due += row.amount;
-        }
+        count += 1;
+        kwh += bill.kwh as u64;
+        due += row.amount;
         i += 1;
     }
     Answer::Reported {

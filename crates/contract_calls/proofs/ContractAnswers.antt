@@ -1,12 +1,12 @@
 -- What open and cert answer and leave, by the number that turns them down and by what is written. Assumes nothing.
-use mathlib.Core.Path.{_≡_, refl, sym, ap, _∙_}
+use mathlib.Core.Path.{_≡_, refl, sym, ap, ap₂, _∙_}
 use mathlib.Core.Bool.{Bool, true}
 use mathlib.Core.List.{List, [], map}
 use Prim.Native.Nat.{ℕ, _+_, _*_, _^_, _<_}
 use native.Mathlib.Omega.{arith}
 use lib.IntN.{ℤ, subℕ}
 use Rattle.limits.specs.Limits.{contractCount}
-use Rattle.basics.proofs.Lists.{total-map}
+use Rattle.basics.specs.Lists.{total}
 use Rattle.fields.specs.Fields.{Fit}
 use Rattle.records.specs.Edits.{replaceAt}
 use Rattle.records.specs.OneSlot.{recordBytes}
@@ -18,21 +18,20 @@ use Rattle.model.specs.Codes.{opening, certify}
 use Rattle.model.specs.Contracts.{contractAt, isOpen}
 use Rattle.model.specs.Rules.{refusal}
 use Rattle.model.specs.PresentRules.{badKind, tests}
-use Rattle.model.specs.Ledger.{view, withRows, rerated, accept}
+use Rattle.model.specs.Ledger.{view, due, withRows, rerated, accept}
 use Rattle.model.proofs.RulesLaws.{Opened, Certified as Taken}
-use Rattle.model.proofs.RowBounds.{due-low}
 use Rattle.layout.specs.Layout.{territoryIn, ledgerOf}
 use Rattle.layout.specs.PresentLayout.{contractRecord}
 use Rattle.layout.specs.Offsets.{firstContract, contractLength}
-use Rattle.layout.specs.Present.{Formed, rules, layout, facts, contracts}
+use Rattle.layout.specs.Present.{Formed, Searched, rules, layout, facts, contracts}
 use Rattle.layout.proofs.PresentLayout.{contract-fits}
 use Rattle.layout.proofs.Present.{present, facts-kept, repacked}
 use Rattle.edits.proofs.PackedChanges.{written-contract}
-use Rattle.ledger.specs.Answered.{viewOf, Summed, AnsweredWithAnyBook}
+use Rattle.ledger.specs.Answered.{viewOf, AnsweredWithAnyBook}
 use Rattle.ledger.proofs.Refusals.{refused-answered, accepted-answered}
 use Rattle.contract_calls.specs.declared.rerating.Rerated.{Rerated}
-use Rattle.contract_calls.specs.Rerating.{Certifiable, RowsRerated}
-use Rattle.contract_calls.proofs.RowsRerating.{new-sum-most}
+use Rattle.contract_calls.specs.Rerating.{Certifiable, Rerateable, RowsRerated}
+use Rattle.contract_calls.proofs.RowsRerating.{new-sum-most, old-sum-most, sums-change}
 
 -- ---- open
 
@@ -66,13 +65,13 @@ module _ (b : List ℕ) (contract fuel kind fix entry n : ℕ) (f : Formed b) (e
 
 -- ---- cert
 
-module _ (b : List ℕ) (rows sum contract class effective : ℕ) where
-  pub not-certified : (n : ℕ) → Summed b rows sum → n ≡ refusal rules (viewOf b) (Call.Cert contract class effective with []) → (n ≡ 0 → ⊥)
+module _ (b : List ℕ) (rows contract class effective : ℕ) where
+  pub not-certified : (n : ℕ) → Searched b rows → n ≡ refusal rules (viewOf b) (Call.Cert contract class effective with []) → (n ≡ 0 → ⊥)
       → AnsweredWithAnyBook b (Call.Cert contract class effective) (Refused n) b
   unfolding refusal tests
-  not-certified n s e some book = refused-answered b _ n (s .searched .formed) e some
+  not-certified n s e some book = refused-answered b _ n (s .formed) e some
 
-  module _ (ok : Certifiable b rows sum contract class effective) where
+  module _ (ok : Certifiable b rows contract class effective) where
     accepted-cert : Taken rules (viewOf b) contract class effective
     accepted-cert = present .rules .certs (viewOf b) contract class effective [] (sym (ok .accepted))
 
@@ -92,21 +91,28 @@ module _ (b : List ℕ) (rows sum contract class effective : ℕ) where
       pub certified-fits : Fit (contractRecord .widths) (contractRecord .values k)
       unfolding view
       certified-fits =
-          let kept = facts-kept b (ok .summed .searched .formed) in
+          let kept = facts-kept b (ok .searched .formed) in
           contract-fits (viewOf b .territory) k (rw is-certified (accepted-cert .ranges _ (kept .contracts contract (accepted-cert .isOpened))))
+
+      -- it has the contract's fuel and kind
+      pub certified-terms : Rerateable b rows contract k
+      unfolding certify
+      certified-terms = record { searched = ok .searched; number = certified-number; fuel = rw (made, read); kind = rw (made, read) }
 
       module _ (r : Rerated) (rated : List ℕ) (t : RowsRerated contract k b r rated) where
         -- the two sums are small enough for their difference
-        pub new-sum-low : r .due < 2 ^ 62
-        new-sum-low = omega (arith, t .due, total-map (λ x. x .amount) (rerated rules contract k) (facts b .rows), new-sum-most b rows contract k (ok .summed .searched))
+        pub new-sum-low : r .new < 2 ^ 62
+        new-sum-low = omega (arith, t .new, new-sum-most contract k b (ok .searched .formed))
+
+        pub old-sum-low : r .old < 2 ^ 62
+        old-sum-low = omega (arith, t .old, old-sum-most contract k b (ok .searched .formed))
 
         pub certified : (after : List ℕ) (change : ℤ) → after ≡ replaceAt (firstContract + contract * contractLength) (recordBytes contractRecord k) rated
-            → change ≡ subℕ (r .due) sum → AnsweredWithAnyBook b (Call.Cert contract class effective) (Certified change (r .changed)) after
-        unfolding refusal tests accept
+            → change ≡ subℕ (r .new) (r .old) → AnsweredWithAnyBook b (Call.Cert contract class effective) (Certified change (r .changed)) after
+        unfolding refusal tests accept due
         certified after change put net book =
-            accepted-answered b _ (ok .summed .searched .formed) (ok .accepted)
-            (rw (net, t .due, t .changed, ok .summed .total, is-certified))
+            let sums : change ≡ subℕ (total (λ x. x .amount) (map (rerated rules contract k) (facts b .rows))) (total (λ x. x .amount) (facts b .rows)) =
+            net ∙ ap₂ subℕ (t .new) (t .old) ∙ sums-change contract k b (ok .searched .formed) in
+            accepted-answered b _ (ok .searched .formed) (ok .accepted)
+            (rw (sums, t .changed, is-certified))
             (written-contract (withRows (facts b) (map (rerated rules contract k) (facts b .rows))) rated after (t .left) contract k certified-number put ∙ rw is-certified)
-
-  pub sum-low : Certifiable b rows sum contract class effective → sum < 2 ^ 62
-  sum-low ok = omega (arith, ok .summed .total, due-low (facts-kept b (ok .summed .searched .formed)) (present .rules))

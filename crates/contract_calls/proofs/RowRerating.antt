@@ -1,6 +1,6 @@
--- One row re-rated: what is found and left, by whether it is a row of the contract and whether its amount changes. Assumes nothing.
+-- One row re-rated: what is found and left, by whether it has shares and whether its amount changes. Assumes nothing.
 use mathlib.Core.Path.{_≡_, sym, ap, _∙_}
-use mathlib.Core.Bool.{not, cond}
+use mathlib.Core.Bool.{Bool, true, false, not, cond}
 use mathlib.Core.List.{List}
 use Prim.Native.Nat.{ℕ, _^_, _<_}
 use native.Mathlib.Omega.{arith}
@@ -10,7 +10,7 @@ use Rattle.records.specs.Edits.{replaceAt}
 use Rattle.records.specs.OneSlot.{recordBytes}
 use Rattle.records.proofs.Replaced.{replaced-same}
 use Rattle.rates.specs.declared.Contract.{Contract}
-use Rattle.amounts.specs.Amounts.{amount, Rateable}
+use Rattle.amounts.specs.Amounts.{hasShares, amount, Rateable}
 use Rattle.amounts.proofs.AmountBounds.{amount-bits}
 use Rattle.model.specs.declared.Row.{Row}
 use Rattle.model.specs.Ledger.{withAmount, priced, rerated}
@@ -34,47 +34,57 @@ module _ (contract : ℕ) (terms : Contract) (x : Row) where
 -- ---- whether an amount is another
 
 module _ (new old : ℕ) where
-  unchanged : new ≡ old → _≡_ {A = ℕ} 0 (cond (not (eqb new old)) 1 0)
+  pub unchanged : new ≡ old → _≡_ {A = ℕ} 0 (cond (not (eqb new old)) 1 0)
   unchanged e = rw (yes-eq new old e)
 
   changed : (new ≡ old → ⊥) → _≡_ {A = ℕ} 1 (cond (not (eqb new old)) 1 0)
   changed n = rw (no-eq new old n)
 
--- ---- the row x of slot i
+-- ---- the row x of slot i, which is one of the contract
 
-module _ (b : List ℕ) (i : ℕ) (slot : RowInSlot b i) (x : Row) (read : x ≡ rowAt b i) where
-  pub bill-rateable : Rateable (x .bill)
-  bill-rateable = rw read (slot .rateable)
+module _ (b : List ℕ) (i contract : ℕ) (terms : Contract) (slot : RowInSlot b i contract terms) (x : Row) (read : x ≡ rowAt b i) where
+  module _ (h : Bool) (e : h ≡ hasShares (x .bill)) (none : h ≡ false) where
+    pub bill-rateable : Rateable (x .bill)
+    bill-rateable = rw read (slot .rateable)
 
-  pub new-amount-low : (terms : Contract) (a : ℕ) → a ≡ amount terms (x .bill) → a < 2 ^ 50
-  new-amount-low terms a e = omega (arith, amount-bits terms (x .bill) bill-rateable)
+    pub bill-whole : hasShares (x .bill) ≡ false
+    bill-whole = sym e ∙ none
 
-  module _ (contract : ℕ) (terms : Contract) where
-    pub row-kept : (x .bill .contract ≡ contract → ⊥) → RowRerated contract terms b i (record { due = x .amount; changed = 0 }) b
-    row-kept n =
-        let same : rerated rules contract terms (rowAt b i) ≡ rowAt b i = other-row contract terms (rowAt b i) (rw read at n) in
+  is-old : x .amount ≡ rowAt b i .amount
+  is-old = ap (λ (y : Row). y .amount) read
+
+  new : (a : ℕ) → a ≡ amount terms (x .bill) → rerated rules contract terms (rowAt b i) ≡ withAmount (rowAt b i) a
+  new a rated = own-row contract terms (rowAt b i) (slot .own) ∙ ap (withAmount (rowAt b i)) (sym (rw read at rated))
+
+  -- its amount stays
+  row-stays : x .amount ≡ amount terms (x .bill) → RowRerated contract terms b i (record { old = x .amount; new = x .amount; changed = 0 }) b
+  row-stays same =
+      let is : rerated rules contract terms (rowAt b i) ≡ rowAt b i = new (x .amount) same ∙ ap (withAmount (rowAt b i)) is-old in
+      record {
+        old = is-old;
+        new = ap (λ (y : Row). y .amount) (read ∙ sym is);
+        changed = unchanged _ _ (ap (λ (y : Row). y .amount) is);
+        left = sym (ap (λ (bytes : List ℕ). replaceAt (rowStart i) bytes b) (ap (recordBytes rowRecord) (is ∙ row-in-slot b i) ∙ slot .packed) ∙ replaced-same (rowStart i) rowLength b (omega (arith, slot .long, slot .inside)));
+      }
+
+  pub shares-stay : (h : Bool) → h ≡ hasShares (x .bill) → h ≡ true → RowRerated contract terms b i (record { old = x .amount; new = x .amount; changed = 0 }) b
+  shares-stay h e some = row-stays (rw read (sym (slot .set-aside (rw read at (sym e ∙ some)))))
+
+  -- it has no shares, and this amount
+  module _ (a : ℕ) (rated : a ≡ amount terms (x .bill)) where
+    pub amount-stays : a ≡ x .amount → RowRerated contract terms b i (record { old = x .amount; new = x .amount; changed = 0 }) b
+    amount-stays same = row-stays (sym same ∙ rated)
+
+    pub new-amount-low : a < 2 ^ 50
+    new-amount-low = let fits = amount-bits terms (rowAt b i .bill) (slot .rateable) in rw (rated, read) fits
+
+    pub amount-changes : (a ≡ x .amount → ⊥) → (after : List ℕ) → after ≡ replaceAt (rowStart i) (recordBytes rowRecord (withAmount (rowAt b i) a)) b
+        → RowRerated contract terms b i (record { old = x .amount; new = a; changed = 1 }) after
+    amount-changes other after put =
+        let is-new : a ≡ newAmount contract terms (rowAt b i) = sym (ap (λ (y : Row). y .amount) (new a rated)) in
         record {
-          due = ap (λ (y : Row). y .amount) (read ∙ sym same);
-          changed = unchanged _ _ (ap (λ (y : Row). y .amount) same);
-          left = sym (ap (λ (new : List ℕ). replaceAt (rowStart i) new b) (ap (recordBytes rowRecord) (same ∙ row-in-slot b i) ∙ slot .packed) ∙ replaced-same (rowStart i) rowLength b (omega (arith, slot .long, slot .inside)));
+          old = is-old;
+          new = is-new;
+          changed = changed _ _ (λ e. other (is-new ∙ e ∙ sym is-old));
+          left = put ∙ ap (λ (y : Row). replaceAt (rowStart i) (recordBytes rowRecord y) b) (sym (new a rated));
         }
-
-    module _ (own : x .bill .contract ≡ contract) (a : ℕ) (rated : a ≡ amount terms (x .bill)) (after : List ℕ)
-        (put : after ≡ replaceAt (rowStart i) (recordBytes rowRecord (withAmount (rowAt b i) a)) b) where
-      new : rerated rules contract terms (rowAt b i) ≡ withAmount (rowAt b i) a
-      new = own-row contract terms (rowAt b i) (rw read at own) ∙ ap (withAmount (rowAt b i)) (sym (rw read at rated))
-
-      is-new : a ≡ newAmount contract terms (rowAt b i)
-      is-new = sym (ap (λ (y : Row). y .amount) new)
-
-      is-old : x .amount ≡ rowAt b i .amount
-      is-old = ap (λ (y : Row). y .amount) read
-
-      left : after ≡ replaceAt (rowStart i) (recordBytes rowRecord (rerated rules contract terms (rowAt b i))) b
-      left = put ∙ ap (λ (y : Row). replaceAt (rowStart i) (recordBytes rowRecord y) b) (sym new)
-
-      pub row-same : a ≡ x .amount → RowRerated contract terms b i (record { due = a; changed = 0 }) after
-      row-same e = record { due = is-new; changed = unchanged _ _ (sym is-new ∙ e ∙ is-old); left = left }
-
-      pub row-changed : (a ≡ x .amount → ⊥) → RowRerated contract terms b i (record { due = a; changed = 1 }) after
-      row-changed n = record { due = is-new; changed = changed _ _ (λ e. n (is-new ∙ e ∙ sym is-old)); left = left }

@@ -1,129 +1,222 @@
 -- The rows of a ledger re-rated one after the other. Assumes nothing.
 use mathlib.Core.Path.{_≡_, refl, sym, ap, ap₂, _∙_, subst}
-use mathlib.Core.Bool.{cond}
-use mathlib.Core.List.{List}
+use mathlib.Core.Logic.{_≢_}
+use mathlib.Core.Bool.{true, cond}
+use mathlib.Core.List.{List, map}
 use Prim.Native.Nat.{ℕ, _+_, _*_, _^_, _<_, _≤_}
 use native.Mathlib.Omega.{arith}
 use lib.Dec.{eqb}
+use lib.IntN.{subℕ}
 use lib.ListN.{length, take, drop}
 use lib.Seq.{drop-drop}
 use Rattle.limits.specs.Limits.{rowCount}
 use Rattle.basics.specs.Lists.{total}
-use Rattle.basics.proofs.Tests.{either, eq-yes, eq-no}
-use Rattle.basics.proofs.Lists.{all-at, total-map}
-use Rattle.basics.proofs.FirstMapped.{firstMapped, first-all, length-first, first-next}
+use Rattle.basics.proofs.Tests.{either, eq-yes, yes-eq, eq-no, no-eq}
+use Rattle.basics.proofs.Lists.{all-at, total-cong, total-split, total-map}
+use Rattle.basics.proofs.Integers.{sub-same}
+use Rattle.basics.proofs.FirstMapped.{firstMapped, length-first, first-next}
 use Rattle.records.specs.Edits.{replaceAt}
 use Rattle.records.specs.OneSlot.{recordBytes, IsPacked}
 use Rattle.records.proofs.Replaced.{replaced-rest, replaced-length}
 use Rattle.rates.specs.declared.Contract.{Contract}
-use Rattle.amounts.specs.Amounts.{Rateable}
+use Rattle.amounts.specs.Amounts.{hasShares, amount}
+use Rattle.amounts.proofs.Shares.{amount-set-aside}
 use Rattle.amounts.proofs.AmountBounds.{highestAmount, amount-low}
 use Rattle.model.specs.declared.Row.{Row}
-use Rattle.model.specs.Contracts.{Contracts}
-use Rattle.model.specs.Ledger.{withRows, rerated}
+use Rattle.model.specs.Contracts.{Contracts, contractAt}
+use Rattle.model.specs.Rules.{partOfDue}
+use Rattle.model.specs.Ledger.{ofContract, withRows, rerated}
+use Rattle.model.specs.Places.{placeOf, reaches}
 use Rattle.model.specs.WellFormed.{RowOk}
 use Rattle.model.proofs.PresentRules.{bill-ranges}
 use Rattle.model.proofs.RowBounds as bounds
+use Rattle.model.proofs.SortedRows.{same-before, same-after}
+use Rattle.layout.specs.Layout.{ledgerOf}
 use Rattle.layout.specs.PresentLayout.{rowRecord}
 use Rattle.layout.specs.Offsets.{ledgerLength, rowStart, rowLength}
-use Rattle.layout.specs.Present.{rules, facts, bytes, rowAt, Searched}
+use Rattle.layout.specs.Present.{rules, facts, contracts, bytes, rowAt, Formed, Searched}
 use Rattle.layout.proofs.Present.{present, formed-length, facts-kept, repacked}
 use Rattle.layout.proofs.HeldRows.{rows-most}
 use Rattle.edits.proofs.PackedChanges.{length-row, replaced-row}
-use Rattle.ledger.proofs.EachRow.{row-inside, row-there, row-read, SummedTo, summed-none, summed-next, summed-most, summed-all}
+use Rattle.ledger.proofs.EachRow.{row-inside, row-there, row-read, SummedTo, summed-next, summed-most}
+use Rattle.ledger.proofs.Search.{spans, apart}
+use Rattle.ledger.proofs.ContractRows.{below-end, own-contract, summed-begins, summed-ends}
 use Rattle.contract_calls.specs.declared.rerating.Rerated.{Rerated}
-use Rattle.contract_calls.specs.Rerating.{RowInSlot, newAmount, amountChanges, RowRerated, RowsRerated}
+use Rattle.contract_calls.specs.Rerating.{Rerateable, RowInSlot, newAmount, amountChanges, RowRerated, RowsRerated}
 use Rattle.contract_calls.proofs.RowsInSlots.{same-row, row-packed}
-use Rattle.contract_calls.proofs.RowRerating.{other-row, own-row}
+use Rattle.contract_calls.proofs.RowRerating.{other-row, own-row, unchanged}
 
--- a row's amount under any terms is low enough for its sum
-new-amount-most : (contract : ℕ) (terms : Contract) (cs : Contracts) (x : Row) → RowOk rules cs x → newAmount contract terms x ≤ highestAmount
-new-amount-most contract terms cs x o =
-    either (eqb (x .bill .contract) contract)
-    (λ e. omega (arith, ap (λ (y : Row). y .amount) (own-row contract terms x (eq-yes _ _ e)), amount-low terms (x .bill) (bill-ranges _ (x .bill) (o .ranges) .rateable)))
-    (λ e. omega (arith, ap (λ (y : Row). y .amount) (other-row contract terms x (eq-no _ _ e)), bounds.amount-low (present .rules) o))
+-- w of a row of the contract, and 0 of any other row
+abbrev forContract : ℕ → (Row → ℕ) → Row → ℕ
+forContract contract w x = cond (ofContract contract x) (w x) 0
 
-pub new-sum-most : (b : List ℕ) (rows contract : ℕ) (terms : Contract) → Searched b rows → total (newAmount contract terms) (facts b .rows) ≤ rowCount * highestAmount
-new-sum-most b rows contract terms s = bounds.sum-most (facts-kept b (s .formed)) _ highestAmount (new-amount-most contract terms (facts b .contracts))
+-- ---- rows of other contracts weigh nothing and stay as they are
 
--- a held row can be rated
-held-rateable : (b : List ℕ) (rows i : ℕ) → Searched b rows → i < rows → Rateable (rowAt b i .bill)
-held-rateable b rows i s h =
-    let o : RowOk rules (facts b .contracts) (rowAt b i) = rw (row-read b rows i s h (rowAt b i) refl) (all-at (RowOk rules (facts b .contracts)) (facts b .rows) (rowAt b i) (facts-kept b (s .formed) .rows) i (row-there b rows i s h)) in
-    bill-ranges _ (rowAt b i .bill) (o .ranges) .rateable
+module _ (contract : ℕ) (terms : Contract) where
+  others-weightless : (w : Row → ℕ) (x : Row) → x .bill .contract ≢ contract → forContract contract w x ≡ 0
+  others-weightless w x n = rw (no-eq (x .bill .contract) contract n)
 
--- after i of the rows of the ledger b₀: the bytes, the sum of the new amounts and how many changed
-pub record Passed (b₀ : List ℕ) (contract : ℕ) (terms : Contract) (i : ℕ) (b : List ℕ) (due changed : ℕ) : Type 0 where
+  others-unchanged : (x : Row) → x .bill .contract ≢ contract → _≡_ {A = ℕ} (cond (amountChanges contract terms x) 1 0) 0
+  others-unchanged x n = sym (unchanged _ _ (ap (λ (y : Row). y .amount) (other-row contract terms x n)))
+
+  -- ---- amounts under any terms are low enough for their sums
+
+  new-amount-most : (cs : Contracts) (x : Row) → RowOk rules cs x → newAmount contract terms x ≤ highestAmount
+  new-amount-most cs x o =
+      either (eqb (x .bill .contract) contract)
+      (λ e. omega (arith, ap (λ (y : Row). y .amount) (own-row contract terms x (eq-yes _ _ e)), amount-low terms (x .bill) (bill-ranges _ (x .bill) (o .ranges) .rateable)))
+      (λ e. omega (arith, ap (λ (y : Row). y .amount) (other-row contract terms x (eq-no _ _ e)), bounds.amount-low (present .rules) o))
+
+  module _ (b : List ℕ) (f : Formed b) where
+    -- the sums of the contract's amounts, and of all
+    abbrev ownOld : ℕ
+    ownOld = total (forContract contract (λ x. x .amount)) (facts b .rows)
+
+    abbrev ownNew : ℕ
+    ownNew = total (forContract contract (newAmount contract terms)) (facts b .rows)
+
+    abbrev allOld : ℕ
+    allOld = total (λ x. x .amount) (facts b .rows)
+
+    abbrev allNew : ℕ
+    allNew = total (λ x. x .amount) (map (rerated rules contract terms) (facts b .rows))
+
+    pub old-sum-most : ownOld ≤ rowCount * highestAmount
+    old-sum-most = bounds.passing-most (facts-kept b f) (ofContract contract) _ highestAmount (λ x o. bounds.amount-low (present .rules) o)
+
+    pub new-sum-most : ownNew ≤ rowCount * highestAmount
+    new-sum-most = bounds.passing-most (facts-kept b f) (ofContract contract) _ highestAmount (new-amount-most (facts b .contracts))
+
+    -- the contract's change is that of all rows: the others' amounts stay
+    other-amount : (x : Row) → cond (ofContract contract x) 0 (newAmount contract terms x) ≡ cond (ofContract contract x) 0 (x .amount)
+    other-amount x = either (ofContract contract x) (λ y. rw y) (λ n. rw n (ap (λ (y : Row). y .amount) (other-row contract terms x (eq-no _ _ n))))
+
+    pub sums-change : subℕ ownNew ownOld ≡ subℕ allNew allOld
+    sums-change =
+        let others = total-cong _ _ other-amount (facts b .rows) in
+        let old = total-split (ofContract contract) (λ x. x .amount) (facts b .rows) in
+        let new = total-split (ofContract contract) (newAmount contract terms) (facts b .rows) in
+        let mapped = total-map (λ x. x .amount) (rerated rules contract terms) (facts b .rows) in
+        sub-same ownNew ownOld allNew allOld (omega arith)
+
+-- ---- the rows, one after the other
+
+-- a held row is as a well-formed ledger asks
+row-kept : (b : List ℕ) (rows i : ℕ) → Searched b rows → i < rows → RowOk rules (facts b .contracts) (rowAt b i)
+row-kept b rows i s h = rw (row-read b rows i s h (rowAt b i) refl) (all-at (RowOk rules (facts b .contracts)) (facts b .rows) (rowAt b i) (facts-kept b (s .formed) .rows) i (row-there b rows i s h))
+
+-- the pass at row i of the ledger b₀: the bytes, the sums of the old and the new amounts and how many changed
+pub record Passed (b₀ : List ℕ) (contract : ℕ) (terms : Contract) (i : ℕ) (b : List ℕ) (old new changed : ℕ) : Type 0 where
   pub long : length b ≡ ledgerLength
+  pub from : placeOf (reaches contract 0) (facts b₀ .rows) ≤ i
   pub left : b ≡ bytes (withRows (facts b₀) (firstMapped (rerated rules contract terms) i (facts b₀ .rows)))
   pub rest : drop (rowStart i) b ≡ drop (rowStart i) b₀
-  pub amounts : SummedTo (newAmount contract terms) (facts b₀ .rows) i due
+  pub olds : SummedTo (forContract contract (λ x. x .amount)) (facts b₀ .rows) i old
+  pub news : SummedTo (forContract contract (newAmount contract terms)) (facts b₀ .rows) i new
   pub changes : SummedTo (λ x. cond (amountChanges contract terms x) 1 0) (facts b₀ .rows) i changed
 
-module _ (b₀ : List ℕ) (rows contract : ℕ) (terms : Contract) (s : Searched b₀ rows) where
+module _ (b₀ : List ℕ) (rows contract : ℕ) (terms : Contract) (t : Rerateable b₀ rows contract terms) where
   abbrev f : Row → Row
   f = rerated rules contract terms
 
   abbrev xs : List Row
   xs = facts b₀ .rows
 
-  pub none-passed : Passed b₀ contract terms 0 b₀ 0 0
-  none-passed = record { long = formed-length b₀ (s .formed); left = sym (repacked b₀ (s .formed)); rest = refl; amounts = summed-none _ xs; changes = summed-none _ xs }
+  abbrev s : Searched b₀ rows
+  s = t .searched
 
-  module _ (i : ℕ) (b : List ℕ) (due changed : ℕ) (p : Passed b₀ contract terms i b due changed) where
+  pub none-passed : (i : ℕ) → i ≡ placeOf (reaches contract 0) (facts b₀ .rows) → Passed b₀ contract terms i b₀ 0 0 0
+  none-passed i e = record {
+    long = formed-length b₀ (s .formed);
+    from = omega arith;
+    left = sym (ap (λ (ys : List Row). bytes (withRows (facts b₀) ys)) (ap (λ (n : ℕ). firstMapped f n xs) e ∙ same-before contract xs (spans b₀ rows s) (apart b₀ rows s) f (other-row contract terms)) ∙ repacked b₀ (s .formed));
+    rest = refl;
+    olds = summed-begins b₀ rows s contract _ (others-weightless contract terms (λ x. x .amount)) i e;
+    news = summed-begins b₀ rows s contract _ (others-weightless contract terms (newAmount contract terms)) i e;
+    changes = summed-begins b₀ rows s contract _ (others-unchanged contract terms) i e;
+  }
+
+  module _ (i : ℕ) (b : List ℕ) (old new changed : ℕ) (p : Passed b₀ contract terms i b old new changed) where
     pub passed-length : length b ≡ length b₀
     passed-length = p .long ∙ sym (formed-length b₀ (s .formed))
 
-    -- ---- one row more
+    module _ (end : ℕ) (ends : end ≡ placeOf (reaches (contract + 1) 0) (facts b₀ .rows)) where
+      -- ---- one row more
 
-    module _ (h : i < rows) where
-      row : rowAt b i ≡ rowAt b₀ i
-      row = same-row b b₀ i (p .rest)
+      module _ (h : i < end) where
+        held : i < rows
+        held = below-end b₀ rows s contract end ends i h
 
-      pub next-slot : RowInSlot b i
-      next-slot = record {
-        long = p .long;
-        inside = row-inside b₀ rows i s h;
-        packed = subst (λ (d : List ℕ). IsPacked rowRecord (take rowLength d)) (sym (p .rest)) (row-packed b₀ rows i s h);
-        rateable = rw row (held-rateable b₀ rows i s h);
-      }
+        row : rowAt b i ≡ rowAt b₀ i
+        row = same-row b b₀ i (p .rest)
 
-      module _ (r : Rerated) (after : List ℕ) (t : RowRerated contract terms b i r after) where
-        pub row-passed : Passed b₀ contract terms (i + 1) after (due + r .due) (changed + r .changed)
-        row-passed =
-            let x : Row = rowAt b₀ i in
-            let at : ℕ = rowStart i in
-            let new : List ℕ = recordBytes rowRecord (f x) in
-            let put : after ≡ replaceAt at new b = t .left ∙ ap (λ (y : Row). replaceAt at (recordBytes rowRecord (f y)) b) row in
-            let inside : at + length new ≤ length b = omega (arith, length-row (f x), p .long, row-inside b₀ rows i s h) in
-            let next : rowStart (i + 1) ≡ at + length new = omega (arith, length-row (f x)) in
-            let few = length-first f i xs in
-            record {
-              long = ap length put ∙ replaced-length at new b inside ∙ p .long;
-              left =
-                  replaced-row (withRows (facts b₀) (firstMapped f i xs)) b after (p .left) i (f x) (omega (arith, row-there b₀ rows i s h)) (omega (arith, rows-most present b₀ (s .formed))) put
-                  ∙ ap (λ (ys : List Row). bytes (withRows (facts b₀) ys)) (rw (row-read b₀ rows i s h x refl) (first-next f i xs x (row-there b₀ rows i s h)));
-              rest =
-                  ap₂ (λ (n : ℕ) (d : List ℕ). drop n d) next put ∙ replaced-rest at new b inside
-                  ∙ sym (drop-drop (length new) at b) ∙ ap (drop (length new)) (p .rest) ∙ drop-drop (length new) at b₀ ∙ ap (λ (n : ℕ). drop n b₀) (sym next);
-              amounts = rw (t .due, row) (summed-next (p .amounts) x x (row-there b₀ rows i s h) (row-read b₀ rows i s h x refl));
-              changes = rw (t .changed, row) (summed-next (p .changes) x x (row-there b₀ rows i s h) (row-read b₀ rows i s h x refl));
-            }
+        own : rowAt b₀ i .bill .contract ≡ contract
+        own = own-contract b₀ rows s contract end ends i (p .from) h (rowAt b₀ i) refl
 
-        pub due-fits : due + r .due < 2 ^ 64
-        due-fits = omega (arith, summed-most (row-passed .amounts), new-sum-most b₀ rows contract terms s)
+        kept : RowOk rules (facts b₀ .contracts) (rowAt b₀ i)
+        kept = row-kept b₀ rows i s held
 
-        pub changed-fits : changed + r .changed < 2 ^ 32
-        changed-fits = omega (arith, summed-most (row-passed .changes), bounds.count-low (facts-kept b₀ (s .formed)) (amountChanges contract terms))
+        stays : hasShares (rowAt b₀ i .bill) ≡ true → amount terms (rowAt b₀ i .bill) ≡ rowAt b₀ i .amount
+        unfolding partOfDue ledgerOf
+        stays some =
+            amount-set-aside terms (contractAt (contracts b₀) contract) (rowAt b₀ i .bill) some (t .fuel) (t .kind)
+            ∙ ap (λ (c : ℕ). amount (contractAt (contracts b₀) c) (rowAt b₀ i .bill)) (sym own) ∙ sym (kept .part)
 
-    -- ---- all rows
-
-    pub all-passed : i ≤ rows → rows ≤ i → RowsRerated contract terms b₀ (record { due = due; changed = changed }) b
-    all-passed h k =
-        let end : i ≡ length xs = omega (arith, s .count) in
-        record {
-          due = summed-all (p .amounts) end ∙ sym (total-map (λ y. y .amount) f xs);
-          changed = summed-all (p .changes) end;
-          left = p .left ∙ ap (λ (ys : List Row). bytes (withRows (facts b₀) ys)) (ap (λ (n : ℕ). firstMapped f n xs) end ∙ first-all f xs);
+        pub next-slot : RowInSlot b i contract terms
+        next-slot = record {
           long = p .long;
+          inside = row-inside b₀ rows i s held;
+          packed = subst (λ (d : List ℕ). IsPacked rowRecord (take rowLength d)) (sym (p .rest)) (row-packed b₀ rows i s held);
+          own = rw row own;
+          rateable = rw row (bill-ranges _ (rowAt b₀ i .bill) (kept .ranges) .rateable);
+          set-aside = rw row stays;
         }
+
+        module _ (r : Rerated) (after : List ℕ) (u : RowRerated contract terms b i r after) where
+          next-sum : {w : Row → ℕ} {m : ℕ} → SummedTo w xs i m → SummedTo w xs (i + 1) (m + w (rowAt b₀ i))
+          next-sum m = summed-next m (rowAt b₀ i) (rowAt b₀ i) (row-there b₀ rows i s held) (row-read b₀ rows i s held (rowAt b₀ i) refl)
+
+          for-own : (w : Row → ℕ) → forContract contract w (rowAt b₀ i) ≡ w (rowAt b₀ i)
+          for-own w = rw (yes-eq (rowAt b₀ i .bill .contract) contract own)
+
+          pub row-passed : Passed b₀ contract terms (i + 1) after (old + r .old) (new + r .new) (changed + r .changed)
+          row-passed =
+              let x : Row = rowAt b₀ i in
+              let at : ℕ = rowStart i in
+              let put : after ≡ replaceAt at (recordBytes rowRecord (f x)) b = u .left ∙ ap (λ (y : Row). replaceAt at (recordBytes rowRecord (f y)) b) row in
+              let inside : at + length (recordBytes rowRecord (f x)) ≤ length b = omega (arith, length-row (f x), p .long, row-inside b₀ rows i s held) in
+              let next : rowStart (i + 1) ≡ at + length (recordBytes rowRecord (f x)) = omega (arith, length-row (f x)) in
+              let few = length-first f i xs in
+              record {
+                long = ap length put ∙ replaced-length at (recordBytes rowRecord (f x)) b inside ∙ p .long;
+                from = omega (arith, p .from);
+                left =
+                    replaced-row (withRows (facts b₀) (firstMapped f i xs)) b after (p .left) i (f x) (omega (arith, row-there b₀ rows i s held)) (omega (arith, rows-most present b₀ (s .formed))) put
+                    ∙ ap (λ (ys : List Row). bytes (withRows (facts b₀) ys)) (rw (row-read b₀ rows i s held x refl) (first-next f i xs x (row-there b₀ rows i s held)));
+                rest =
+                    ap₂ (λ (n : ℕ) (d : List ℕ). drop n d) next put ∙ replaced-rest at (recordBytes rowRecord (f x)) b inside
+                    ∙ sym (drop-drop (length (recordBytes rowRecord (f x))) at b) ∙ ap (drop (length (recordBytes rowRecord (f x)))) (p .rest) ∙ drop-drop (length (recordBytes rowRecord (f x))) at b₀ ∙ ap (λ (n : ℕ). drop n b₀) (sym next);
+                olds = rw (u .old, row, ← for-own (λ y. y .amount)) (next-sum (p .olds));
+                news = rw (u .new, row, ← for-own (newAmount contract terms)) (next-sum (p .news));
+                changes = rw (u .changed, row) (next-sum (p .changes));
+              }
+
+          pub old-fits : old + r .old < 2 ^ 64
+          old-fits = omega (arith, summed-most (row-passed .olds), old-sum-most contract terms b₀ (s .formed))
+
+          pub new-fits : new + r .new < 2 ^ 64
+          new-fits = omega (arith, summed-most (row-passed .news), new-sum-most contract terms b₀ (s .formed))
+
+          pub changed-fits : changed + r .changed < 2 ^ 32
+          changed-fits = omega (arith, summed-most (row-passed .changes), bounds.count-low (facts-kept b₀ (s .formed)) (amountChanges contract terms))
+
+      -- ---- all rows of the contract
+
+      pub all-passed : end ≤ i → RowsRerated contract terms b₀ (record { old = old; new = new; changed = changed }) b
+      all-passed h = record {
+        old = summed-ends b₀ rows s contract _ (others-weightless contract terms (λ x. x .amount)) i end ends h (p .olds);
+        new = summed-ends b₀ rows s contract _ (others-weightless contract terms (newAmount contract terms)) i end ends h (p .news);
+        changed = summed-ends b₀ rows s contract _ (others-unchanged contract terms) i end ends h (p .changes);
+        left = p .left ∙ ap (λ (ys : List Row). bytes (withRows (facts b₀) ys)) (same-after contract xs (spans b₀ rows s) (apart b₀ rows s) f (other-row contract terms) i (omega arith));
+        long = p .long;
+      }

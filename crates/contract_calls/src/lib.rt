@@ -16,8 +16,8 @@ use rerating::rerate_rows;
 use signed::difference;
 ghost use mathlib.Core.Path.{_≡_};
 ghost use Rattle.model.specs.declared.Call.{Call};
-ghost use Rattle.layout.specs.Present.{Formed};
-ghost use Rattle.ledger.specs.Answered.{Summed, AnsweredWithAnyBook};
+ghost use Rattle.layout.specs.Present.{Formed, Searched};
+ghost use Rattle.ledger.specs.Answered.{AnsweredWithAnyBook};
 ghost use Rattle.contract_calls.specs.Start.{startAnswer, startBytes};
 ghost use Rattle.contract_calls.specs.Rerating.{Certifiable};
 
@@ -60,12 +60,11 @@ pub fn open_contract(
 fn accepted_cert(
     ledger: &mut [u8],
     rows: usize,
-    due: u64,
     contract: u32,
     class: u32,
     effective_day: u32,
 ) -> Answer
-    requires { ⌜ Certifiable (now ledger) rows due contract class «effective_day» ⌝ }
+    requires { ⌜ Certifiable (now ledger) rows contract class «effective_day» ⌝ }
     ensures { λ r. ⌜ AnsweredWithAnyBook (now (ledger .entry)) (Call.Cert contract class «effective_day») r (now (ledger .exit)) ⌝ }
 {
     let c = contract as usize;
@@ -73,26 +72,19 @@ fn accepted_cert(
     let rerated = rerate_rows(ledger, rows, contract, certified);
     write_contract(ledger, c, certified);
     Answer::Certified {
-        change: difference(rerated.due, due),
+        change: difference(rerated.new, rerated.old),
         rows: rerated.changed,
     }
 }
 
 // cert: another certificate in place of the contract's, and the contract's rows re-rated.
-pub fn cert(
-    ledger: &mut [u8],
-    rows: usize,
-    due: u64,
-    contract: u32,
-    class: u32,
-    effective_day: u32,
-) -> Answer
-    requires { ⌜ Summed (now ledger) rows due ⌝ }
+pub fn cert(ledger: &mut [u8], rows: usize, contract: u32, class: u32, effective_day: u32) -> Answer
+    requires { ⌜ Searched (now ledger) rows ⌝ }
     ensures { λ r. ⌜ AnsweredWithAnyBook (now (ledger .entry)) (Call.Cert contract class «effective_day») r (now (ledger .exit)) ⌝ }
 {
     let refused = refused_cert(ledger, contract, class, effective_day);
     if refused != 0 {
         return Answer::Refused(refused);
     }
-    accepted_cert(ledger, rows, due, contract, class, effective_day)
+    accepted_cert(ledger, rows, contract, class, effective_day)
 }

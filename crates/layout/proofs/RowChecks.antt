@@ -1,17 +1,17 @@
--- What the check of one row slot says, and each turn of the pass over the rows, from what is still to be found to what is found.
--- Assumes nothing.
+-- What is read of one row slot says, and each turn of the pass over the rows, from what is still to be found to what is found. The pass holds
+-- the contract and the last day of the row before. Assumes nothing.
 use mathlib.Core.Path.{_≡_, refl, sym, ap, ap₂, _∙_, subst}
-use mathlib.Core.Bool.{Bool, true, false, not, cond, _&&_}
+use mathlib.Core.Bool.{Bool, true, false, cond, _&&_}
 use mathlib.Core.List.{List, [], _∷_, map}
 use Prim.Native.Nat.{ℕ, suc, _+_, _-_, _*_, _≤_, _<_}
 use native.Mathlib.Omega.{arith}
-use lib.Dec.{leb, eqb}
+use lib.Dec.{ltb, eqb}
 use lib.ListN.{length, drop, getD}
 use lib.Seq.{drop-length}
-use Rattle.limits.specs.Limits.{rowCount, dayValues}
+use Rattle.limits.specs.Limits.{rowCount}
 use Rattle.basics.specs.Tests.{every}
 use Rattle.basics.specs.Lists.{total}
-use Rattle.basics.proofs.Tests.{eq-yes, le-yes, yes-le, no-le, and-left, not-yes, not-no}
+use Rattle.basics.proofs.Tests.{either, eq-yes, yes-eq, yes-lt, lt-yes, lt-no, and-left, and-right, or-yes}
 use Rattle.fields.specs.Field.{AreBytes}
 use Rattle.records.specs.Pack.{size}
 use Rattle.records.specs.Slots.{whole, allZero, slotIn, slotOk, slots, arrayIn}
@@ -19,124 +19,139 @@ use Rattle.records.specs.Places.{held}
 use Rattle.records.specs.Edits.{zeroAt}
 use Rattle.records.proofs.Slots.{length-slots}
 use Rattle.records.proofs.OneSlot.{slots-next, zero-rest}
-use Rattle.records.proofs.Scan.{recordOf, Keyed, bool-same, test, held-passes, scan-exactly, found, found-end, found-free, found-trailing, found-bad, found-good}
+use Rattle.records.proofs.Scan.{recordOf, Following, bool-same, test, scan-exactly, found, found-end, found-free, found-trailing, found-bad, found-good}
 use Rattle.amounts.proofs.AmountBounds.{highestAmount}
 use Rattle.model.specs.declared.Row.{Row}
 use Rattle.model.specs.Contracts.{Contracts}
 use Rattle.model.specs.Rules.{Rules}
+use Rattle.model.specs.Ledger.{comesAfter}
 use Rattle.model.specs.WellFormed.{before}
 use Rattle.model.proofs.RowOrder.{Span}
-use Rattle.model.proofs.RowBounds.{row-span, amount-low}
+use Rattle.model.proofs.RowBounds.{row-span, row-begins, amount-low}
 use Rattle.layout.specs.Layout.{Layout, rowOk, comesBefore, firstRow, ledgerLength, contractsIn, rowSlots}
 use Rattle.layout.specs.declared.Checked.{Checked}
 use Rattle.layout.specs.declared.Checked.the-variants.{Malformed, WellFormed}
-use Rattle.layout.specs.declared.RowCheck.{RowCheck}
-use Rattle.layout.specs.declared.RowCheck.the-variants.{Free, Bad, Good}
-use Rattle.layout.specs.Check.{firstKey, nextKey, rowSlotAt, heldCheckOf, rowCheckOf, rowsCheckedOf}
+use Rattle.layout.specs.declared.RowSlot.{RowSlot}
+use Rattle.layout.specs.declared.RowSlot.the-variants.{Free, Bad, Held}
+use Rattle.layout.specs.Check.{rowSlotAt, slotRead, rowsCheckedOf}
 use Rattle.layout.proofs.LayoutLaws.{row-facts}
 use Rattle.layout.proofs.Order.{comes-before, before-comes}
 use Rattle.layout.proofs.Lawful.{Lawful}
 use Rattle.layout.proofs.Access.{row-whole, rows-inside}
 
--- what the pass finds of the row slots vs, with `rows` rows before them whose amounts add up to `due`
-abbrev passed : Rules → Layout → Contracts → (least rows due : ℕ) → List (List ℕ) → Checked
-passed R L cs = found (L .row) (rowOk R cs) firstKey nextKey (λ x. x .amount) Malformed WellFormed
+-- what is held of a row, its contract and last day, and whether a row comes after them
+abbrev holds : Row → ℕ × ℕ
+holds x = (x .bill .contract, x .bill .last)
+
+abbrev follows : ℕ × ℕ → Row → Bool
+follows s x = comesAfter (s .0) (s .1) (x .bill)
+
+-- what the pass finds of the row slots vs, with `rows` rows before them, whose amounts add up to `due` and of which the last is held
+abbrev passed : Rules → Layout → Contracts → (contract last rows due : ℕ) → List (List ℕ) → Checked
+passed R L cs contract last = found (L .row) (rowOk R cs) holds follows (λ x. x .amount) Malformed WellFormed (contract, last)
 
 -- the pass at row i: what is found from there on is what is to be found, and the amounts so far are those of i bills
-pub record Passing (R : Rules) (L : Layout) (b : List ℕ) (i least due : ℕ) : Type 0 where
+pub record Passing (R : Rules) (L : Layout) (b : List ℕ) (i contract last due : ℕ) : Type 0 where
   pub place : i ≤ rowCount
   pub low : due ≤ i * highestAmount
-  rest : passed R L (contractsIn R L b) least i due (drop i (slots (L .row) rowCount (drop (firstRow R L) b))) ≡ rowsCheckedOf R L b
+  rest : passed R L (contractsIn R L b) contract last i due (drop i (slots (L .row) rowCount (drop (firstRow R L) b))) ≡ rowsCheckedOf R L b
 
-pub record GoodRow (R : Rules) (L : Layout) (cs : Contracts) (least : ℕ) (v : List ℕ) (next amount : ℕ) : Type 0 where
-  pub taken : eqb (getD v 0 0) 0 ≡ false
-  pub passes : test (L .row) (rowOk R cs) v && leb least (firstKey (recordOf (L .row) v)) ≡ true
-  pub next-is : next ≡ nextKey (recordOf (L .row) v)
-  pub amount-is : amount ≡ recordOf (L .row) v .amount
+-- ---- a row comes after the contract and last day of another just where it comes after that row
 
--- ---- one row
+module _ (c day : ℕ) (x : Row) where
+  after-later : c < x .bill .contract → comesAfter c day (x .bill) ≡ true
+  after-later h = rw (yes-lt c (x .bill .contract) h)
 
-module _ (R : Rules) (cs : Contracts) (least : ℕ) (x : Row) (r : Bool) (e : r ≡ rowOk R cs x) where
-  pub held-bad : not r ≡ true → Bad ≡ heldCheckOf R cs least x
-  unfolding heldCheckOf
-  held-bad f = let g : rowOk R cs x ≡ false = sym e ∙ not-yes r f in rw g
+  after-own : c ≡ x .bill .contract → day < x .bill .first → comesAfter c day (x .bill) ≡ true
+  after-own e h = either (ltb c (x .bill .contract)) (λ l. rw l) (λ l. rw (l, yes-eq c (x .bill .contract) e, yes-lt day (x .bill .first) h))
 
-  module _ (f : not r ≡ false) (key : ℕ) (k : key ≡ firstKey x) where
-    passing : rowOk R cs x ≡ true
-    passing = sym e ∙ not-no r f
+  after-cases : {X : Type 0} → comesAfter c day (x .bill) ≡ true → (c < x .bill .contract → X) → (c ≡ x .bill .contract → day < x .bill .first → X) → X
+  after-cases e later own = either (ltb c (x .bill .contract))
+      (λ l. later (lt-yes c (x .bill .contract) l))
+      (λ l.
+      let g = or-yes (ltb c (x .bill .contract)) _ e l in
+      own (eq-yes c (x .bill .contract) (and-left (eqb c (x .bill .contract)) _ g)) (lt-yes day (x .bill .first) (and-right (eqb c (x .bill .contract)) _ g)))
 
-    pub held-early : key < least → Bad ≡ heldCheckOf R cs least x
-    unfolding heldCheckOf
-    held-early h = rw (passing, no-le least (firstKey x) (omega arith))
+module _ (x y : Row) (p : Span x) (q : Span y) where
+  after-row : comesAfter (x .bill .contract) (x .bill .last) (y .bill) ≡ true → before x y
+  unfolding before
+  after-row e = after-cases (x .bill .contract) (x .bill .last) y e (λ l. omega (arith, p .short)) (λ e l. omega arith)
 
-    pub held-good : least ≤ key → (end : ℕ) → end ≡ x .bill .contract * dayValues + x .bill .last → Good (end + 1) (x .amount) ≡ heldCheckOf R cs least x
-    unfolding heldCheckOf
-    held-good h end n = rw (passing, yes-le least (firstKey x) (omega arith)) (ap (λ (m : ℕ). Good (m + 1) (x .amount)) n)
+  row-after : before x y → comesAfter (x .bill .contract) (x .bill .last) (y .bill) ≡ true
+  unfolding before
+  row-after h = either (ltb (x .bill .contract) (y .bill .contract))
+      (λ l. after-later (x .bill .contract) (x .bill .last) y (lt-yes _ _ l))
+      (λ l.
+      let k : y .bill .contract ≤ x .bill .contract = lt-no _ _ l in
+      let same : x .bill .contract ≡ y .bill .contract = omega (arith, q .days, q .short) in
+      after-own (x .bill .contract) (x .bill .last) y same (omega arith))
+
+  after-on : (c day : ℕ) → comesAfter c day (x .bill) ≡ true → before x y → comesAfter c day (y .bill) ≡ true
+  unfolding before
+  after-on c day e h = after-cases c day x e
+      (λ l. after-later c day y (omega (arith, q .days, q .short)))
+      (λ own l. either (ltb (x .bill .contract) (y .bill .contract))
+      (λ m. let n : x .bill .contract < y .bill .contract = lt-yes _ _ m in after-later c day y (omega arith))
+      (λ m.
+      let k : y .bill .contract ≤ x .bill .contract = lt-no _ _ m in
+      let same : x .bill .contract ≡ y .bill .contract = omega (arith, q .days, q .short) in
+      after-own c day y (own ∙ same) (omega (arith, p .days))))
 
 module _ {R : Rules} {L : Layout} (laws : Lawful R L) where
-  -- ---- one slot
-
-  module _ (cs : Contracts) (least : ℕ) (v : List ℕ) where
-    pub check-free : eqb (getD v 0 0) 0 ≡ true → Free ≡ rowCheckOf R L cs least v
-    unfolding rowCheckOf
-    check-free e = rw e
-
-    module _ (taken : eqb (getD v 0 0) 0 ≡ false) where
-      -- one of the bits that must stay zero is not
-      pub check-padding : allZero (drop (suc (length (L .row .widths))) v) ≡ false → Bad ≡ rowCheckOf R L cs least v
-      unfolding rowCheckOf
-      check-padding e = rw (taken, e)
-
-      -- they are, so that the row decides
-      pub check-row : allZero (drop (suc (length (L .row .widths))) v) ≡ true → (r : RowCheck) → r ≡ heldCheckOf R cs least (recordOf (L .row) v) → r ≡ rowCheckOf R L cs least v
-      unfolding rowCheckOf
-      check-row e r h = rw (taken, e) h
-
-    -- what each finding says
-    abbrev passes : Bool
-    passes = test (L .row) (rowOk R cs) v && leb least (firstKey (recordOf (L .row) v))
-
-    abbrev Says : RowCheck → Type 0
-    Says Free = getD v 0 0 ≡ 0
-    Says Bad = (eqb (getD v 0 0) 0 ≡ false) × (passes ≡ false)
-    Says (Good next amount) = GoodRow R L cs least v next amount
-
-    pub check-says : {r : RowCheck} → r ≡ rowCheckOf R L cs least v → Says r
-    unfolding rowCheckOf slotOk
-    check-says {r} e = subst Says (sym e) (go (eqb (getD v 0 0) 0) refl (allZero (drop (suc (length (L .row .widths))) v)) refl (rowOk R cs x) (leb least (firstKey x)) refl refl)
-      where
-        x : Row
-        x = recordOf (L .row) v
-
-        go : (f : Bool) → eqb (getD v 0 0) 0 ≡ f → (z : Bool) → allZero (drop (suc (length (L .row .widths))) v) ≡ z → (p q : Bool) → rowOk R cs x ≡ p → leb least (firstKey x) ≡ q
-            → Says (cond f Free (cond z (cond (p && q) (Good (nextKey x) (x .amount)) Bad) Bad))
-        go true f z h p q i j = eq-yes (getD v 0 0) 0 f
-        go false f false h p q i j = (f, rw (f, h))
-        go false f true h true true i j = record { taken = f; passes = rw (f, h, i, j); next-is = refl; amount-is = refl }
-        go false f true h true false i j = (f, rw (f, h, i, j))
-        go false f true h false q i j = (f, rw (f, h, i))
-
-  -- ---- rows that pass are in the order of their keys
-
-  pub rows-keyed : (cs : Contracts) → Keyed (rowOk R cs) comesBefore firstKey nextKey
-  unfolding before
-  rows-keyed cs = record {
-    grows = λ x e. let p = span x e in omega (arith, p .days);
-    order = λ x y e f.
+  -- rows that pass are in the order of what is held of them
+  pub rows-following : (cs : Contracts) → Following (rowOk R cs) comesBefore (0, 0) holds follows
+  rows-following cs = record {
+    first = λ x e.
+        let begins : 0 < x .bill .first = row-begins (laws .rules) (row-facts R cs x e) in
+        either (ltb 0 (x .bill .contract)) (λ l. after-later 0 0 x (lt-yes _ _ l)) (λ l. let n : x .bill .contract ≤ 0 = lt-no _ _ l in after-own 0 0 x (omega arith) begins);
+    next = λ x y e f.
         let p = span x e in
         let q = span y f in
-        bool-same (comesBefore x y) (leb (nextKey x) (firstKey y)) (λ c. yes-le (nextKey x) (firstKey y) (next-first x y (comes-before x y p q c)))
-        (λ c. before-comes x y p q (first-next x y (le-yes (nextKey x) (firstKey y) c)));
+        bool-same _ _ (λ a. before-comes x y p q (after-row x y p q a)) (λ b. row-after x y p q (comes-before x y p q b));
+    onward = λ s x y e f a b. after-on x y (span x e) (span y f) (s .0) (s .1) a (comes-before x y (span x e) (span y f) b);
   }
     where
       span : (x : Row) → rowOk R cs x ≡ true → Span x
       span x e = row-span (laws .rules) (row-facts R cs x e)
 
-      next-first : (x y : Row) → before x y → nextKey x ≤ firstKey y
-      next-first x y h = omega arith
+  -- ---- one slot
 
-      first-next : (x y : Row) → nextKey x ≤ firstKey y → before x y
-      first-next x y h = omega arith
+  module _ (v : List ℕ) where
+    pub read-free : eqb (getD v 0 0) 0 ≡ true → Free ≡ slotRead R L v
+    unfolding slotRead
+    read-free e = rw e
+
+    module _ (taken : eqb (getD v 0 0) 0 ≡ false) where
+      pub read-bad : allZero (drop (suc (length (L .row .widths))) v) ≡ false → Bad ≡ slotRead R L v
+      unfolding slotRead
+      read-bad e = rw (taken, e)
+
+      pub read-held : allZero (drop (suc (length (L .row .widths))) v) ≡ true → (x : Row) → x ≡ recordOf (L .row) v → Held x ≡ slotRead R L v
+      unfolding slotRead
+      read-held e x m = rw (taken, e) (ap Held m)
+
+    -- what each reading says
+    pub record HeldSlot (x : Row) : Type 0 where
+      pub taken : eqb (getD v 0 0) 0 ≡ false
+      pub padded : allZero (drop (suc (length (L .row .widths))) v) ≡ true
+      pub holding : x ≡ recordOf (L .row) v
+
+    abbrev Says : RowSlot → Type 0
+    Says Free = getD v 0 0 ≡ 0
+    Says Bad = (eqb (getD v 0 0) 0 ≡ false) × (allZero (drop (suc (length (L .row .widths))) v) ≡ false)
+    Says (Held x) = HeldSlot x
+
+    pub read-says : {r : RowSlot} → r ≡ slotRead R L v → Says r
+    unfolding slotRead
+    read-says {r} e = subst Says (sym e) (go (eqb (getD v 0 0) 0) refl (allZero (drop (suc (length (L .row .widths))) v)) refl)
+      where
+        go : (f : Bool) → eqb (getD v 0 0) 0 ≡ f → (z : Bool) → allZero (drop (suc (length (L .row .widths))) v) ≡ z → Says (cond f Free (cond z (Held (recordOf (L .row) v)) Bad))
+        go true f z h = eq-yes (getD v 0 0) 0 f
+        go false f false h = (f, h)
+        go false f true h = record { taken = f; padded = h; holding = refl }
+
+    pub row-of-slot : {x : Row} → Held x ≡ slotRead R L v → x ≡ recordOf (L .row) v
+    row-of-slot f = let g = read-says f in g .holding
 
   -- ---- the pass
 
@@ -147,28 +162,28 @@ module _ {R : Rules} {L : Layout} (laws : Lawful R L) where
     abbrev numbers : List (List ℕ)
     numbers = slots (L .row) rowCount (drop (firstRow R L) b)
 
-    pub pass-begins : Passing R L b 0 0 0
+    pub pass-begins : Passing R L b 0 0 0 0
     unfolding found rowsCheckedOf rowSlots arrayIn
     pass-begins = record {
       place = omega arith;
       low = omega arith;
       rest =
-          ap₂ (λ (p : Bool) (c : Checked). cond p c Malformed) (scan-exactly (L .row) (rowOk R cs) firstKey nextKey comesBefore (rows-keyed cs) numbers)
+          ap₂ (λ (p : Bool) (c : Checked). cond p c Malformed) (scan-exactly (L .row) (rowOk R cs) holds follows comesBefore (0, 0) (rows-following cs) numbers)
           (ap₂ WellFormed (plus (length (held (map (slotIn (L .row)) numbers)))) (plus (total (λ x. x .amount) (held (map (slotIn (L .row)) numbers)))));
     }
       where
         plus : (n : ℕ) → 0 + n ≡ n
         plus n = omega arith
 
-    module _ {i least due : ℕ} (p : Passing R L b i least due) where
+    module _ {i contract last due : ℕ} (p : Passing R L b i contract last due) where
       pub pass-ends : rowCount ≤ i → WellFormed rowCount due ≡ rowsCheckedOf R L b
       pass-ends h =
           let e : i ≡ rowCount = omega (arith, p .place) in
           let n : rowCount ≡ length numbers = sym (length-slots (L .row) rowCount (drop (firstRow R L) b)) in
           let z : drop i numbers ≡ [] = ap (λ (k : ℕ). drop k numbers) (e ∙ n) ∙ drop-length numbers in
           ap (λ (k : ℕ). WellFormed k due) (sym e)
-          ∙ sym (found-end (L .row) (rowOk R cs) firstKey nextKey (λ x. x .amount) Malformed WellFormed least i due)
-          ∙ ap (passed R L cs least i due) (sym z) ∙ p .rest
+          ∙ sym (found-end (L .row) (rowOk R cs) holds follows (λ x. x .amount) Malformed WellFormed (contract, last) i due)
+          ∙ ap (passed R L cs contract last i due) (sym z) ∙ p .rest
 
       module _ (long : length b ≡ ledgerLength R L) (h : i < rowCount) where
         abbrev v : List ℕ
@@ -180,40 +195,48 @@ module _ {R : Rules} {L : Layout} (laws : Lawful R L) where
         next-slots : drop i numbers ≡ v ∷ vs
         next-slots = slots-next (L .row) (row-whole laws) rowCount (firstRow R L) b (rows-inside laws b long) i h
 
-        here : passed R L cs least i due (v ∷ vs) ≡ rowsCheckedOf R L b
-        here = ap (passed R L cs least i due) (sym next-slots) ∙ p .rest
+        here : passed R L cs contract last i due (v ∷ vs) ≡ rowsCheckedOf R L b
+        here = ap (passed R L cs contract last i due) (sym next-slots) ∙ p .rest
 
-        pub row-malformed : Bad ≡ rowCheckOf R L cs least v → Malformed ≡ rowsCheckedOf R L b
-        row-malformed f =
-            let g = check-says cs least v f in
-            sym (found-bad (L .row) (rowOk R cs) firstKey nextKey (λ x. x .amount) Malformed WellFormed least i due v vs (g .0) (g .1)) ∙ here
+        malformed : eqb (getD v 0 0) 0 ≡ false → test (L .row) (rowOk R cs) v && follows (contract, last) (recordOf (L .row) v) ≡ false → Malformed ≡ rowsCheckedOf R L b
+        malformed taken e = sym (found-bad (L .row) (rowOk R cs) holds follows (λ x. x .amount) Malformed WellFormed (contract, last) i due v vs taken e) ∙ here
 
-        -- a row that passes: its amount is that of a bill, and the pass goes on
-        module _ {next amount : ℕ} (f : Good next amount ≡ rowCheckOf R L cs least v) where
-          good : GoodRow R L cs least v next amount
-          good = check-says cs least v f
+        -- one of the bits that must stay zero is not
+        pub slot-malformed : Bad ≡ slotRead R L v → Malformed ≡ rowsCheckedOf R L b
+        unfolding slotOk
+        slot-malformed f = let g = read-says v f in malformed (g .0) (rw (g .1))
 
-          low : amount ≤ highestAmount
-          low =
-              let g = good in
-              omega (arith, g .amount-is, amount-low (laws .rules) (row-facts R cs (recordOf (L .row) v) (held-passes (L .row) (rowOk R cs) v (g .taken) (and-left (test (L .row) (rowOk R cs) v) _ (g .passes)))))
+        -- the slot holds the row x
+        module _ {x : Row} (f : Held x ≡ slotRead R L v) where
+          holding : HeldSlot v x
+          holding = read-says v f
 
-          pub row-adds : due + amount ≤ rowCount * highestAmount
-          row-adds = omega (arith, p .low, low)
+          passes : test (L .row) (rowOk R cs) v && follows (contract, last) (recordOf (L .row) v) ≡ rowOk R cs x && comesAfter contract last (x .bill)
+          unfolding slotOk
+          passes = let g = holding in rw (g .taken, g .padded, g .holding)
 
-          pub row-passed : Passing R L b (i + 1) next (due + amount)
-          row-passed =
-              let g = good in
-              record {
-                place = omega arith;
-                low = omega (arith, p .low, low);
-                rest =
-                    ap₂ (λ (n a : ℕ). passed R L cs n (i + 1) (due + a) vs) (g .next-is) (g .amount-is)
-                    ∙ sym (found-good (L .row) (rowOk R cs) firstKey nextKey (λ x. x .amount) Malformed WellFormed least i due v vs (g .taken) (g .passes)) ∙ here;
-              }
+          pub row-malformed : rowOk R cs x && comesAfter contract last (x .bill) ≡ false → Malformed ≡ rowsCheckedOf R L b
+          row-malformed e = malformed (holding .taken) (passes ∙ e)
+
+          -- a row that passes: its amount is that of a bill, and the pass goes on with it in hand
+          module _ (e : rowOk R cs x && comesAfter contract last (x .bill) ≡ true) where
+            amount-most : x .amount ≤ highestAmount
+            amount-most = amount-low (laws .rules) (row-facts R cs x (and-left (rowOk R cs x) _ e))
+
+            pub row-adds : due + x .amount ≤ rowCount * highestAmount
+            row-adds = omega (arith, p .low, amount-most)
+
+            pub row-passed : Passing R L b (i + 1) (x .bill .contract) (x .bill .last) (due + x .amount)
+            row-passed = record {
+              place = omega arith;
+              low = omega (arith, p .low, amount-most);
+              rest =
+                  ap (λ (y : Row). passed R L cs (y .bill .contract) (y .bill .last) (i + 1) (due + y .amount) vs) (holding .holding)
+                  ∙ sym (found-good (L .row) (rowOk R cs) holds follows (λ y. y .amount) Malformed WellFormed (contract, last) i due v vs (holding .taken) (passes ∙ e)) ∙ here;
+            }
 
         -- a free slot: zeros follow to the end, or not
-        module _ (bytes : AreBytes b) (f : Free ≡ rowCheckOf R L cs least v) where
+        module _ (bytes : AreBytes b) (f : Free ≡ slotRead R L v) where
           abbrev restZero : Bool
           restZero = zeroAt (firstRow R L + i * size (whole (L .row))) (ledgerLength R L - (firstRow R L + i * size (whole (L .row)))) b
 
@@ -221,8 +244,11 @@ module _ {R : Rules} {L : Layout} (laws : Lawful R L) where
           unfolding ledgerLength
           zeros = zero-rest (L .row) (row-whole laws) rowCount (firstRow R L) b (rows-inside laws b long) i bytes h ∙ ap (λ (ws : List (List ℕ)). every (map allZero ws)) next-slots
 
-          pub rows-end : restZero ≡ true → WellFormed i due ≡ rowsCheckedOf R L b
-          rows-end z = sym (found-free (L .row) (rowOk R cs) firstKey nextKey (λ x. x .amount) Malformed WellFormed least i due v vs (check-says cs least v f) (sym zeros ∙ z)) ∙ here
+          rows-end : restZero ≡ true → WellFormed i due ≡ rowsCheckedOf R L b
+          rows-end z = sym (found-free (L .row) (rowOk R cs) holds follows (λ x. x .amount) Malformed WellFormed (contract, last) i due v vs (read-says v f) (sym zeros ∙ z)) ∙ here
 
-          pub rows-trailing : restZero ≡ false → Malformed ≡ rowsCheckedOf R L b
-          rows-trailing z = sym (found-trailing (L .row) (rowOk R cs) firstKey nextKey (λ x. x .amount) Malformed WellFormed least i due v vs (check-says cs least v f) (sym zeros ∙ z)) ∙ here
+          rows-trailing : restZero ≡ false → Malformed ≡ rowsCheckedOf R L b
+          rows-trailing z = sym (found-trailing (L .row) (rowOk R cs) holds follows (λ x. x .amount) Malformed WellFormed (contract, last) i due v vs (read-says v f) (sym zeros ∙ z)) ∙ here
+
+          pub rows-rest : cond restZero (WellFormed i due) Malformed ≡ rowsCheckedOf R L b
+          rows-rest = either restZero (λ z. rw z (rows-end z)) (λ z. rw z (rows-trailing z))

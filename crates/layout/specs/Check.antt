@@ -2,10 +2,10 @@
 use mathlib.Core.Path.{_≡_}
 use mathlib.Core.Bool.{Bool, true, not, cond, _&&_, _||_}
 use mathlib.Core.List.{List, map}
-use Prim.Native.Nat.{ℕ, suc, _+_, _*_}
+use Prim.Native.Nat.{ℕ, suc}
 use lib.Dec.{leb, eqb}
 use lib.ListN.{length, drop, getD}
-use Rattle.limits.specs.Limits.{rowCount, mostClaims, dayValues}
+use Rattle.limits.specs.Limits.{rowCount, mostClaims}
 use Rattle.basics.specs.Tests.{every}
 use Rattle.basics.specs.Lists.{total}
 use Rattle.records.specs.Slots.{allZero, slotOk, slots, recordFields}
@@ -13,25 +13,13 @@ use Rattle.records.specs.OneSlot.{slotAt}
 use Rattle.records.specs.Places.{held, inOrder}
 use Rattle.records.specs.Pairs.{everyPair}
 use Rattle.model.specs.declared.Row.{Row}
-use Rattle.model.specs.Contracts.{Contracts}
 use Rattle.model.specs.Rules.{Rules}
 use Rattle.model.specs.Ledger.{due}
-use Rattle.layout.specs.Layout.{Layout, firstContract, firstRow, claimsIn, penceIn, contractsIn, rowSlots, contractTest, rowOk, rowTest, comesBefore, wellFormed, ledgerOf}
+use Rattle.layout.specs.Layout.{Layout, firstContract, firstRow, claimsIn, penceIn, contractsIn, rowSlots, contractTest, rowTest, comesBefore, wellFormed, ledgerOf}
 use Rattle.layout.specs.declared.Checked.{Checked}
 use Rattle.layout.specs.declared.Checked.the-variants.{Malformed, WellFormed}
-use Rattle.layout.specs.declared.RowCheck.{RowCheck}
-use Rattle.layout.specs.declared.RowCheck.the-variants.{Free, Bad, Good}
-
--- contract and first day of a row as one number, and the first such number after its last day
-abbrev pub firstKey : Row → ℕ
-firstKey x = x .bill .contract * dayValues + x .bill .first
-
-abbrev pub nextKey : Row → ℕ
-nextKey x = x .bill .contract * dayValues + x .bill .last + 1
-
--- a held row: it is not as it must be, or it begins before `least`; or what it leaves to the next
-unfoldable pub heldCheckOf : Rules → Contracts → (least : ℕ) → Row → RowCheck
-heldCheckOf R cs least x = cond (rowOk R cs x && leb least (firstKey x)) (Good (nextKey x) (x .amount)) Bad
+use Rattle.layout.specs.declared.RowSlot.{RowSlot}
+use Rattle.layout.specs.declared.RowSlot.the-variants.{Free, Bad, Held}
 
 module _ (R : Rules) (L : Layout) where
   -- of a well-formed ledger the number of its rows and the sum of their amounts, and of any other bytes nothing
@@ -53,12 +41,9 @@ module _ (R : Rules) (L : Layout) where
   unfoldable pub rowAt : List ℕ → ℕ → Row
   rowAt b i = L .row .of (recordFields (L .row) (rowSlotAt b i))
 
-  -- one slot: free; or bits that must stay zero are not; or what the check of its row finds
-  unfoldable pub rowCheckOf : Contracts → (least : ℕ) → List ℕ → RowCheck
-  unfolding heldCheckOf
-  rowCheckOf cs least v =
-      cond (eqb (getD v 0 0) 0) Free
-      (cond (allZero (drop (suc (length (L .row .widths))) v)) (heldCheckOf R cs least (L .row .of (recordFields (L .row) v))) Bad)
+  -- what is read of a slot's numbers: it is free; or bits that must stay zero are not; or its row
+  unfoldable pub slotRead : List ℕ → RowSlot
+  slotRead v = cond (eqb (getD v 0 0) 0) Free (cond (allZero (drop (suc (length (L .row .widths))) v)) (Held (L .row .of (recordFields (L .row) v))) Bad)
 
   -- all rows: their slots and their order, over all pairs
   unfoldable pub rowsCheckedOf : List ℕ → Checked

@@ -1,6 +1,8 @@
-// The layout of the packed ledger. Its code is the sizes in bytes and what a check finds; the rest is specs/ and proofs/.
+// The layout of the packed ledger. Its code is the sizes in bytes and what is read of a slot and found by a check; the rest is specs/ and
+// proofs/.
 use limits::CONTRACT_COUNT;
 use limits::ROW_COUNT;
+use model::Row;
 
 // The byte at which the contracts begin.
 pub const FIRST_CONTRACT: usize = 8;
@@ -23,10 +25,9 @@ pub enum Checked {
     WellFormed { rows: u32, due: u64 },
 }
 
-// What the check of one row finds: the slot is free; or the row is not as it must be; or the first contract and day, as one number,
-// that the next row may have, and the row's amount.
-pub enum RowCheck {
+// What is read of a row's slot: it is free; or one of the bits that must stay zero is not; or the row that it holds.
+pub enum RowSlot {
     Free,
     Bad,
-    Good { next: u32, amount: u64 },
+    Held(Row),
 }

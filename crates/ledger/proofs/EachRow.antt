@@ -5,7 +5,7 @@ use Prim.Native.Nat.{ℕ, _+_, _≤_, _<_}
 use native.Mathlib.Numerals.{add-one}
 use native.Mathlib.Omega.{arith}
 use lib.ListN.{length, drop, getD}
-use lib.Seq.{drop-cons, drop-length}
+use lib.Seq.{drop-cons}
 use Rattle.limits.specs.Limits.{rowCount}
 use Rattle.basics.specs.Lists.{total}
 use Rattle.model.specs.declared.Row.{Row}
@@ -29,9 +29,6 @@ module _ (b : List ℕ) (rows i : ℕ) (s : Searched b rows) (h : i < rows) wher
 pub record SummedTo (w : Row → ℕ) (xs : List Row) (i s : ℕ) : Type 0 where
   pub sum : s + total w (drop i xs) ≡ total w xs
 
-pub summed-none : (w : Row → ℕ) (xs : List Row) → SummedTo w xs 0 0
-summed-none w xs = record { sum = omega arith }
-
 module _ {w : Row → ℕ} {xs : List Row} {i s : ℕ} (t : SummedTo w xs i s) where
   -- with row x, which is at place i
   pub summed-next : (x d : Row) → i < length xs → x ≡ getD xs i d → SummedTo w xs (i + 1) (s + w x)
@@ -42,8 +39,3 @@ module _ {w : Row → ℕ} {xs : List Row} {i s : ℕ} (t : SummedTo w xs i s) w
 
   pub summed-most : s ≤ total w xs
   summed-most = omega (arith, t .sum)
-
-  pub summed-all : i ≡ length xs → s ≡ total w xs
-  summed-all h =
-      let rest : total w (drop i xs) ≡ 0 = ap (λ (n : ℕ). total w (drop n xs)) h ∙ ap (total w) (drop-length xs) in
-      omega (arith, t .sum)

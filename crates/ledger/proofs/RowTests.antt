@@ -1,63 +1,44 @@
--- The check of a row, from what its tests find. Assumes nothing.
-use mathlib.Core.Path.{_≡_, sym, ap, _∙_}
-use mathlib.Core.Bool.{Bool, true, false, not}
-use mathlib.Core.List.{List}
+-- A row's slot as it is read, and a row under what stands under its contract's number. Assumes nothing.
+use mathlib.Core.Path.{_≡_, refl, sym, ap, _∙_}
+use mathlib.Core.Bool.{Bool, true, false, not, _&&_}
+use mathlib.Core.List.{List, [], _∷_}
+use mathlib.Core.Option.{Option, none, some}
 use Prim.Native.Nat.{ℕ, suc, _+_, _-_, _<_}
-use lib.Dec.{eqb}
+use lib.Dec.{eqb, ltb}
 use lib.ListN.{length, take, drop, getD}
 use Rattle.limits.specs.Limits.{contractCount}
-use Rattle.basics.proofs.Tests.{either, eq-yes, eq-no, not-yes, not-no}
+use Rattle.basics.specs.Tests.{every}
+use Rattle.basics.proofs.Tests.{yes-lt, not-yes, not-no}
 use Rattle.records.specs.Slots.{allZero}
 use Rattle.records.specs.OneSlot.{slotNumbers, isTaken, recordIn, slotAt}
 use Rattle.records.proofs.OneSlot.{part-lent}
 use Rattle.rates.specs.declared.Contract.{Contract}
 use Rattle.amounts.specs.Amounts.{amount, Rateable}
 use Rattle.model.specs.declared.Row.{Row}
-use Rattle.model.specs.Contracts.{contractOf, isOpen}
+use Rattle.model.specs.Contracts.{contractIn, contractAt, isThere, isOpen}
+use Rattle.model.specs.Rules.{partOfDue}
+use Rattle.model.specs.Ledger.{comesAfter}
 use Rattle.model.specs.PresentRules.{billOk}
 use Rattle.model.proofs.PresentRules.{bill-ranges}
 use Rattle.layout.specs.Layout.{rowOk}
 use Rattle.layout.specs.PresentLayout.{rowRecord}
-use Rattle.layout.specs.Offsets.{ledgerLength, rowStart, rowLength}
-use Rattle.layout.specs.declared.RowCheck.{RowCheck}
-use Rattle.layout.specs.declared.RowCheck.the-variants.{Free, Bad}
-use Rattle.layout.specs.Check.{rowSlotAt, heldCheckOf, rowCheckOf}
-use Rattle.layout.specs.Present.{rules, layout, contracts}
+use Rattle.layout.specs.Offsets.{rowStart, rowLength}
+use Rattle.layout.specs.declared.RowSlot.the-variants.{Free, Bad, Held}
+use Rattle.layout.specs.Check.{slotRead}
+use Rattle.layout.specs.Present.{rules, layout, contracts, rowSlotAt}
 use Rattle.layout.proofs.Lawful.{offsets}
-use Rattle.layout.proofs.LayoutLaws.{row-closed, row-outside, row-rated, row-misrated}
-use Rattle.layout.proofs.RowChecks.{check-free, check-padding, check-row}
+use Rattle.layout.proofs.RowChecks.{read-free, read-bad, read-held, row-of-slot}
 use Rattle.layout.proofs.Present.{present}
-use Rattle.ledger.specs.Rows.{RowRead}
-use Rattle.ledger.proofs.RowNumbers.{row-contract-low, row-days-low}
+use Rattle.ledger.specs.declared.contracts.Terms.{Terms}
+use Rattle.ledger.specs.declared.contracts.Terms.the-variants.{Closed, Open}
+use Rattle.ledger.specs.Rows.{termsOf, rowUnder}
+use Rattle.ledger.proofs.RowNumbers.{row-contract-low}
 
--- ---- `row_ok`: the contract is open, the ranges are kept, the amount is the part of due
+-- ---- `read_row`: the slot's bytes, whether it is held, whether a bit of its zeros is set, and the row that it holds
 
-module _ (b : List ℕ) (x : Row) (low : x .bill .contract < contractCount) (o : Bool) (first : o ≡ isOpen (contracts b) (x .bill .contract)) where
-  pub closed : not o ≡ true → false ≡ rowOk rules (contracts b) x
-  closed e = sym (row-closed rules (contracts b) x low (sym first ∙ not-yes o e))
-
-  pub opened : not o ≡ false → isOpen (contracts b) (x .bill .contract) ≡ true
-  opened e = sym first ∙ not-no o e
-
-  module _ (is : not o ≡ false) (k : Contract) (read : k ≡ contractOf (contracts b) (x .bill)) (t : Bool) (ranges : t ≡ billOk k (x .bill)) where
-    pub outside : not t ≡ true → false ≡ rowOk rules (contracts b) x
-    outside e = sym (row-outside rules (contracts b) x low (opened is) k read (sym ranges ∙ not-yes t e))
-
-    pub part-tested : not t ≡ false → (r : Bool) → r ≡ eqb (x .amount) (amount k (x .bill)) → r ≡ rowOk rules (contracts b) x
-    part-tested inside r e =
-        let kept : billOk k (x .bill) ≡ true = sym ranges ∙ not-no t inside in
-        e ∙ either (eqb (x .amount) (amount k (x .bill)))
-        (λ y. y ∙ sym (row-rated rules (contracts b) x low (opened is) k read kept (eq-yes _ _ y)))
-        (λ n. n ∙ sym (row-misrated rules (contracts b) x low (opened is) k read kept (eq-no _ _ n)))
-
-pub rateable : (x : Row) (k : Contract) (t : Bool) → t ≡ billOk k (x .bill) → not t ≡ false → Rateable (x .bill)
-rateable x k t e f = bill-ranges k (x .bill) (sym e ∙ not-no t f) .rateable
-
--- ---- `check_row`: the slot's bytes, whether it is held, whether a bit of its zeros is set, and the row that it holds
-
-module _ (b : List ℕ) (i least : ℕ) where
+module _ (b : List ℕ) (i : ℕ) where
   abbrev v : List ℕ
-  v = rowSlotAt rules layout b i
+  v = rowSlotAt b i
 
   -- the slot as it is lent
   abbrev at : ℕ
@@ -74,8 +55,8 @@ module _ (b : List ℕ) (i least : ℕ) where
     unfolding isTaken slotAt offsets
     held-is = e ∙ ap (isTaken rowRecord) (part-lent at rowLength b)
 
-    pub slot-free : not h ≡ true → Free ≡ rowCheckOf rules layout (contracts b) least v
-    slot-free f = check-free present (contracts b) least v (not-no _ (sym held-is ∙ not-yes h f))
+    pub slot-free : not h ≡ true → Free ≡ slotRead rules layout v
+    slot-free f = read-free present v (not-no _ (sym held-is ∙ not-yes h f))
 
     module _ (f : not h ≡ false) (p : Bool) (z : p ≡ not (allZero (zeroBits (slotNumbers rowRecord lent)))) where
       taken : eqb (getD v 0 0) 0 ≡ false
@@ -85,14 +66,88 @@ module _ (b : List ℕ) (i least : ℕ) where
       unfolding slotAt offsets
       padded-is = z ∙ ap (λ (s : List ℕ). not (allZero (zeroBits (slotNumbers rowRecord s)))) (part-lent at rowLength b)
 
-      pub slot-padded : p ≡ true → Bad ≡ rowCheckOf rules layout (contracts b) least v
-      slot-padded g = check-padding present (contracts b) least v taken (not-yes _ (sym padded-is ∙ g))
+      pub slot-bad : p ≡ true → Bad ≡ slotRead rules layout v
+      slot-bad g = read-bad present v taken (not-yes _ (sym padded-is ∙ g))
 
-      pub slot-held : p ≡ false → (x : Row) → x ≡ recordIn rowRecord lent → (r : RowCheck) → r ≡ heldCheckOf rules (contracts b) least x → r ≡ rowCheckOf rules layout (contracts b) least v
+      pub slot-held : p ≡ false → (x : Row) → x ≡ recordIn rowRecord lent → Held x ≡ slotRead rules layout v
       unfolding recordIn slotAt offsets
-      slot-held g x m r k =
-          check-row present (contracts b) least v taken (not-no _ (sym padded-is ∙ g)) r (k ∙ ap (heldCheckOf rules (contracts b) least) (m ∙ ap (recordIn rowRecord) (part-lent at rowLength b)))
+      slot-held g x m = read-held present v taken (not-no _ (sym padded-is ∙ g)) x (m ∙ ap (recordIn rowRecord) (part-lent at rowLength b))
 
-  pub row-read : length b ≡ ledgerLength → (x : Row) → x ≡ recordIn rowRecord lent → RowRead b x
-  unfolding recordIn slotAt offsets
-  row-read long x m = rw (m ∙ ap (recordIn rowRecord) (part-lent at rowLength b)) (record { long = long; contract = row-contract-low b i; first = row-days-low b i .0; last = row-days-low b i .1 })
+  -- the number of its contract is that of one
+  pub contract-low : {x : Row} → Held x ≡ slotRead rules layout v → x .bill .contract < contractCount
+  contract-low e = rw (row-of-slot present v e) (row-contract-low b i)
+
+-- ---- what stands under a contract's number
+
+module _ (b : List ℕ) (c : ℕ) (o : Bool) (e : o ≡ isOpen (contracts b) c) where
+  pub terms-closed : o ≡ false → Closed ≡ termsOf (contracts b c)
+  unfolding isOpen
+  terms-closed f = go (contracts b c) (sym e ∙ f)
+    where
+      go : (k : Option Contract) → isThere k ≡ false → Closed ≡ termsOf k
+      go none z = refl
+      go (some k) z = cc
+
+  pub terms-open : o ≡ true → (k : Contract) → k ≡ contractAt (contracts b) c → Open k ≡ termsOf (contracts b c)
+  unfolding isOpen contractAt
+  terms-open f k read = go (contracts b c) (sym e ∙ f) read
+    where
+      go : (o : Option Contract) → isThere o ≡ true → k ≡ contractIn o → Open k ≡ termsOf o
+      go none z r = cc
+      go (some j) z r = ap Open r
+
+pub same-terms : (b : List ℕ) {c d : ℕ} {terms : Terms} → d ≡ c → terms ≡ termsOf (contracts b c) → terms ≡ termsOf (contracts b d)
+same-terms b e f = f ∙ ap (λ (n : ℕ). termsOf (contracts b n)) (sym e)
+
+-- ---- `row_ok`: the contract is open, the ranges are kept, the amount is the part of due
+
+module _ (terms : Terms) (x : Row) where
+  pub closed : terms ≡ Closed → false ≡ rowUnder terms x
+  closed e = rw e
+
+  module _ (k : Contract) (e : terms ≡ Open k) (t : Bool) (ranges : t ≡ billOk k (x .bill)) where
+    pub outside : not t ≡ true → false ≡ rowUnder terms x
+    outside n = rw (e, sym ranges ∙ not-yes t n)
+
+    pub part-tested : not t ≡ false → (r : Bool) → r ≡ eqb (x .amount) (amount k (x .bill)) → r ≡ rowUnder terms x
+    part-tested y r f = rw (e, sym ranges ∙ not-no t y) f
+
+-- ---- `follows`: the row comes after the one before it, and is as it must be
+
+module _ (before last : ℕ) (terms : Terms) (x : Row) (a : Bool) (e : a ≡ comesAfter before last (x .bill)) where
+  pub not-after : not a ≡ true → false ≡ rowUnder terms x && comesAfter before last (x .bill)
+  not-after n = sym (and-false (rowUnder terms x) _ (sym e ∙ not-yes a n))
+    where
+      and-false : (p q : Bool) → q ≡ false → p && q ≡ false
+      and-false true q f = f
+      and-false false q f = refl
+
+  pub is-after : not a ≡ false → (r : Bool) → r ≡ rowUnder terms x → r ≡ rowUnder terms x && comesAfter before last (x .bill)
+  is-after y r f = f ∙ sym (and-true (rowUnder terms x) _ (sym e ∙ not-no a y))
+    where
+      and-true : (p q : Bool) → q ≡ true → p && q ≡ p
+      and-true true q f = f
+      and-true false q f = refl
+
+pub rateable : (x : Row) (k : Contract) (t : Bool) → t ≡ billOk k (x .bill) → not t ≡ false → Rateable (x .bill)
+rateable x k t e f = bill-ranges k (x .bill) (sym e ∙ not-no t f) .rateable
+
+-- the row's test, by what stands under its contract's number
+under-contract : (b : List ℕ) (x : Row) → x .bill .contract < contractCount → rowUnder (termsOf (contracts b (x .bill .contract))) x ≡ rowOk rules (contracts b) x
+unfolding rowOk isOpen contractAt partOfDue
+under-contract b x low = rw (yes-lt (x .bill .contract) contractCount low) (go (contracts b (x .bill .contract)))
+  where
+    last : (p q : Bool) → p && q ≡ p && (q && true)
+    last true true = refl
+    last true false = refl
+    last false q = refl
+
+    go : (o : Option Contract) → rowUnder (termsOf o) x ≡ every (isThere o ∷ billOk (contractIn o) (x .bill) ∷ eqb (x .amount) (amount (contractIn o) (x .bill)) ∷ [])
+    go none = refl
+    go (some k) = last (billOk k (x .bill)) (eqb (x .amount) (amount k (x .bill)))
+
+-- what `follows` tells of a row whose contract was read
+pub row-tested : (b : List ℕ) (before last : ℕ) (terms : Terms) (x : Row) → x .bill .contract < contractCount → terms ≡ termsOf (contracts b (x .bill .contract))
+    → (r : Bool) → r ≡ rowUnder terms x && comesAfter before last (x .bill) → rowOk rules (contracts b) x && comesAfter before last (x .bill) ≡ r
+row-tested b before last terms x low read r e =
+    ap (λ (t : Bool). t && comesAfter before last (x .bill)) (sym (under-contract b x low) ∙ ap (λ (u : Terms). rowUnder u x) (sym read)) ∙ sym e

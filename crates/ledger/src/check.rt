@@ -1,27 +1,31 @@
-// The well-formed check: one pass over the contracts and the rows, each row unpacked once, with what the row before it leaves free.
-use crate::contracts::contract_at;
-use crate::contracts::is_open;
+// The well-formed check: one pass over the contracts and one over the rows, each row unpacked once, with the contract and the last day of
+// the row before it in hand.
+use crate::contracts::Terms;
+use crate::contracts::terms_at;
+use crate::rows::comes_after;
 use layout::CONTRACT_LENGTH;
 use layout::Checked;
 use layout::FIRST_CONTRACT;
 use layout::FIRST_ROW;
 use layout::LEDGER_LENGTH;
 use layout::ROW_LENGTH;
-use layout::RowCheck;
+use layout::RowSlot;
 use limits::CONTRACT_COUNT;
-use limits::DAY_VALUES;
 use limits::MOST_CLAIMS;
 use limits::ROW_COUNT;
 use model::Row;
 ghost use mathlib.Core.Path.{_≡_};
-ghost use Prim.Native.Nat.{_+_, _*_, _<_, _≤_};
+ghost use mathlib.Core.Bool.{cond, _&&_};
+ghost use Prim.Native.Nat.{_-_, _<_, _≤_};
 ghost use lib.ListN.{length};
-ghost use Rattle.limits.specs.Limits.{contractCount, rowCount, dayValues};
-ghost use Rattle.layout.specs.Layout.{rowOk};
-ghost use Rattle.layout.specs.Offsets.{firstContract, ledgerLength};
-ghost use Rattle.layout.specs.Check.{headerOk, contractsOk, heldCheckOf, rowCheckOf, rowsCheckedOf};
-ghost use Rattle.layout.specs.Present.{rules, layout, contracts, checkedOf, rowSlotAt};
-ghost use Rattle.ledger.specs.Rows.{RowRead};
+ghost use Rattle.limits.specs.Limits.{rowCount};
+ghost use Rattle.records.specs.Edits.{zeroAt};
+ghost use Rattle.model.specs.Ledger.{comesAfter};
+ghost use Rattle.layout.specs.declared.Checked.{Checked};
+ghost use Rattle.layout.specs.Offsets.{firstContract, rowStart, ledgerLength};
+ghost use Rattle.layout.specs.Check.{headerOk, contractsOk, slotRead, rowsCheckedOf};
+ghost use Rattle.layout.specs.Present.{rules, layout, checkedOf, rowSlotAt};
+ghost use Rattle.ledger.specs.Rows.{rowUnder};
 
 // Claims at most 1,000, and no pence where no claim was made.
 fn header_ok(b: &[u8]) -> bool
@@ -55,92 +59,93 @@ fn contracts_ok(b: &[u8]) -> bool
     true
 }
 
-// A row keeps the ranges under its open contract, and its amount is its part of due.
-fn row_ok(b: &[u8], row: Row) -> bool
-    requires { ⌜ (length (now b) ≡ ledgerLength) × (row .bill .contract < contractCount) ⌝ }
-    ensures { λ r. ⌜ r ≡ rowOk rules (contracts (now (b .entry))) row ⌝ }
+// What is read of row slot i.
+fn read_row(b: &[u8], i: usize) -> RowSlot
+    requires { ⌜ (length (now b) ≡ ledgerLength) × (i < rowCount) ⌝ }
+    ensures { λ r. ⌜ r ≡ slotRead rules layout (rowSlotAt (now (b .entry)) i) ⌝ }
 {
-    let bill = row.bill;
-    let c = bill.contract as usize;
-    if !is_open(b, c) {
-        return false;
+    let at = FIRST_ROW + i * ROW_LENGTH;
+    let slot = &b[at..at + ROW_LENGTH];
+    if !codec::rows::is_held(slot) {
+        return RowSlot::Free;
     }
-    let contract = contract_at(b, c);
+    if codec::rows::padding_set(slot) {
+        return RowSlot::Bad;
+    }
+    RowSlot::Held(codec::rows::unpack_row(slot))
+}
+
+// A row keeps the ranges under its contract, which is open, and its amount is its part of due.
+fn row_ok(terms: Terms, row: Row) -> bool
+    ensures { λ r. ⌜ r ≡ rowUnder terms row ⌝ }
+{
+    let Terms::Open(contract) = terms else {
+        return false;
+    };
+    let bill = row.bill;
     if !rules::ranges::bill_ok(contract, bill) {
         return false;
     }
     amounts::is_amount(contract, bill, row.amount)
 }
 
-// Contract and day as one number, in order of contract, then day.
-fn order_key(contract: u32, day: u32) -> u32
-    requires { ⌜ (contract < contractCount) × (day < dayValues) ⌝ }
-    ensures { λ r. ⌜ (r ≡ contract * dayValues + day) × (r < contractCount * dayValues) ⌝ }
+// A row is as it must be under its contract, and comes after one that ends on day `last` of contract `before`.
+fn follows(before: u32, last: u32, terms: Terms, row: Row) -> bool
+    ensures { λ r. ⌜ r ≡ rowUnder terms row && comesAfter before last (row .bill) ⌝ }
 {
-    contract * DAY_VALUES + day
-}
-
-// The check of a held row, whose contract and first day, as one number, are to be `least` or more.
-fn check_held(b: &[u8], row: Row, least: u32) -> RowCheck
-    requires { ⌜ RowRead (now b) row ⌝ }
-    ensures { λ r. ⌜ r ≡ heldCheckOf rules (contracts (now (b .entry))) least row ⌝ }
-{
-    if !row_ok(b, row) {
-        return RowCheck::Bad;
-    }
     let bill = row.bill;
-    if order_key(bill.contract, bill.first) < least {
-        return RowCheck::Bad;
+    if !comes_after(before, last, bill) {
+        return false;
     }
-    RowCheck::Good {
-        next: order_key(bill.contract, bill.last) + 1,
-        amount: row.amount,
-    }
+    row_ok(terms, row)
 }
 
-// The check of row slot i.
-fn check_row(b: &[u8], i: usize, least: u32) -> RowCheck
+// The check of the slots from row i on, where slot i is free: only zeros may follow the i rows before it.
+fn check_rest(b: &[u8], i: usize, due: u64) -> Checked
     requires { ⌜ (length (now b) ≡ ledgerLength) × (i < rowCount) ⌝ }
-    ensures { λ r. ⌜ r ≡ rowCheckOf rules layout (contracts (now (b .entry))) least (rowSlotAt (now (b .entry)) i) ⌝ }
+    ensures { λ r. ⌜ r ≡ cond (zeroAt (rowStart i) (ledgerLength - rowStart i) (now (b .entry))) (Checked.WellFormed i due) Checked.Malformed ⌝ }
 {
     let at = FIRST_ROW + i * ROW_LENGTH;
-    let slot = &b[at..at + ROW_LENGTH];
-    if !codec::rows::is_held(slot) {
-        return RowCheck::Free;
+    if records::is_zero(b, at, LEDGER_LENGTH - at) {
+        return Checked::WellFormed {
+            rows: i as u32,
+            due,
+        };
     }
-    if codec::rows::padding_set(slot) {
-        return RowCheck::Bad;
-    }
-    check_held(b, codec::rows::unpack_row(slot), least)
+    Checked::Malformed
 }
 
-// The check of all rows.
+// The check of all rows: each is read once, with the contract and the last day of the row before it in hand, and what stands under that
+// contract's number. No row begins on day 0, so the first comes after day 0 of contract 0.
 fn check_rows(b: &[u8]) -> Checked
     requires { ⌜ length (now b) ≡ ledgerLength ⌝ }
     ensures { λ r. ⌜ r ≡ rowsCheckedOf rules layout (now (b .entry)) ⌝ }
 {
     let mut i: usize = 0;
-    let mut least: u32 = 0;
+    let mut contract: u32 = 0;
+    let mut last: u32 = 0;
+    let mut terms = terms_at(b, 0);
     let mut due: u64 = 0;
     while i < ROW_COUNT {
-        let found = check_row(b, i, least);
-        match found {
-            RowCheck::Free => {
-                let at = FIRST_ROW + i * ROW_LENGTH;
-                if records::is_zero(b, at, LEDGER_LENGTH - at) {
-                    return Checked::WellFormed {
-                        rows: i as u32,
-                        due,
-                    };
+        let read = read_row(b, i);
+        match read {
+            RowSlot::Free => {
+                return check_rest(b, i, due);
+            }
+            RowSlot::Bad => {
+                return Checked::Malformed;
+            }
+            RowSlot::Held(row) => {
+                let bill = row.bill;
+                if bill.contract != contract {
+                    terms = terms_at(b, bill.contract as usize);
                 }
-                return Checked::Malformed;
-            }
-            RowCheck::Bad => {
-                return Checked::Malformed;
-            }
-            RowCheck::Good { next, amount } => {
-                least = next;
-                due = due + amount;
+                if !follows(contract, last, terms, row) {
+                    return Checked::Malformed;
+                }
+                contract = bill.contract;
+                last = bill.last;
+                due = due + row.amount;
             }
         }
         i += 1;

@@ -13,7 +13,14 @@ ghost use Rattle.model.specs.PresentRules.{openTests};
 ghost use Rattle.model.specs.Contracts.{contractAt, isOpen};
 ghost use Rattle.layout.specs.Offsets.{ledgerLength};
 ghost use Rattle.layout.specs.Present.{contracts};
+ghost use Rattle.ledger.specs.Rows.{termsOf};
 ghost use Rattle.ledger.specs.Answered.{viewOf};
+
+// What stands under a contract's number: nothing, as it isn't open, or the contract.
+pub enum Terms {
+    Closed,
+    Open(Contract),
+}
 
 // Whether the contract with that number is open.
 pub fn is_open(b: &[u8], c: usize) -> bool
@@ -31,6 +38,17 @@ pub fn contract_at(b: &[u8], c: usize) -> Contract
 {
     let at = FIRST_CONTRACT + c * CONTRACT_LENGTH;
     codec::contracts::unpack_contract(&b[at..at + CONTRACT_LENGTH])
+}
+
+// The contract with that number, or that it isn't open.
+pub fn terms_at(b: &[u8], c: usize) -> Terms
+    requires { ⌜ (length (now b) ≡ ledgerLength) × (c < contractCount) ⌝ }
+    ensures { λ r. ⌜ r ≡ termsOf (contracts (now (b .entry)) c) ⌝ }
+{
+    if is_open(b, c) {
+        return Terms::Open(contract_at(b, c));
+    }
+    Terms::Closed
 }
 
 // Refusals 4 and 5 of a call that names an open contract; 0 where neither fits.

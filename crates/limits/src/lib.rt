@@ -37,6 +37,3 @@ pub const MOST_CLAIMS: u32 = 1000;
 
 // How many ticks a penny has.
 pub const TICKS_PER_PENNY: u64 = 10000;
-
-// How many values a stored day has: contract × this + day is in order of contract, then day.
-pub const DAY_VALUES: u32 = 1024;

@@ -2,7 +2,7 @@
 use mathlib.Core.Path.{_≡_}
 use mathlib.Core.Bool.{Bool, true, false, not, cond, _||_}
 use mathlib.Core.List.{List, [], _∷_}
-use Prim.Native.Nat.{ℕ, zero, suc, _≤_, zero-le}
+use Prim.Native.Nat.{ℕ, zero, suc, _<_, _≤_, zero-le}
 use native.Mathlib.Omega.{arith}
 use lib.Dec.{leb, ltb, eqb}
 use lib.ListN.{getD, length}
@@ -18,6 +18,10 @@ use Rattle.model.specs.declared.Request.{Request}
 use Rattle.model.specs.PresentRules.{badBook, badKind, badDays, badEffective, badSpan, badAmounts}
 
 -- ---- numbers that pass
+
+pub span-begins : (first last : ℕ) → badSpan first last ≡ false → 0 < first
+unfolding badSpan
+span-begins first last e = let h : firstSchemeDay ≤ first = le-yes _ _ (and-left (leb firstSchemeDay first) _ (not-no _ e)) in omega arith
 
 pub span-days : (first last : ℕ) → badSpan first last ≡ false → (first ≤ last) × (last ≤ lastDay)
 unfolding badSpan

@@ -1,6 +1,6 @@
 -- What the ledger does to its rows, by the place of the row that it is done to. Assumes nothing.
 use mathlib.Core.Path.{_≡_, refl, sym, ap, _∙_}
-use mathlib.Core.Bool.{Bool}
+use mathlib.Core.Bool.{Bool, true}
 use mathlib.Core.List.{List, [], _∷_, _++_}
 use Prim.Native.Nat.{suc, _+_, _≤_, _<_}
 use native.Mathlib.Nat.{not-suc-le-zero, le-of-suc-le-suc, zero-add}
@@ -25,6 +25,11 @@ insert-at r [] = refl
 insert-at r (x ∷ xs) = either (sortsAfter (x .bill) (r .bill)) (λ e. rw e) (λ e. rw e (ap (λ (l : List Row). x ∷ l) (insert-at r xs)))
 
 module _ (p : Bill → Bool) where
+  -- the row at the place passes
+  pub passes-at-place : (d : Row) (xs : List Row) → placeOf p xs < length xs → p (getD xs (placeOf p xs) d .bill) ≡ true
+  passes-at-place d [] h = absurd (not-suc-le-zero h)
+  passes-at-place d (x ∷ xs) h = either (p (x .bill)) (λ e. rw e e) (λ e. let i : suc (placeOf p xs) < suc (length xs) = rw e at h in rw e (passes-at-place d xs (le-of-suc-le-suc i)))
+
   -- the first row that passes goes
   pub remove-at : (xs : List Row) → remove p xs ≡ take (placeOf p xs) xs ++ drop (suc (placeOf p xs)) xs
   remove-at [] = refl

@@ -22,7 +22,7 @@ use Rattle.model.specs.Rules.{refusal}
 use Rattle.model.specs.PresentRules.{badBook, badNumber, badKind, badClass, badDays, badEffective, badSpan, badAmounts, badShares, noPrice, tests, contractTests, contractRanges, contractOk, billTests, billOk, presentRules}
 use Rattle.model.proofs.Refusals.{fitsAt, numbered, clear}
 use Rattle.model.proofs.Codes.{fuel-code, kind-code, kind-days, class-code, class-day}
-use Rattle.model.proofs.AcceptedBill.{span-days, kind-low, kwh-low, supply-low, price-low}
+use Rattle.model.proofs.AcceptedBill.{span-begins, span-days, kind-low, kwh-low, supply-low, price-low}
 use Rattle.model.proofs.RulesLaws.{Taken, Opened, Certified, RulesLaws}
 
 -- an accepted call's test of that number did not fit
@@ -159,6 +159,7 @@ present-rules-laws = record {
   claims = λ v book e. le-no mostClaims (v .claims) (passed v (Call.Claim with book) e 13);
   totals = λ v book. refl;
   days = λ k b e. span-days (b .first) (b .last) (bill-ranges k b e .span);
+  begins = λ k b e. span-begins (b .first) (b .last) (bill-ranges k b e .span);
   low = λ k b e. amount-low k b (bill-ranges k b e .rateable);
   any-cert = any-cert;
   capped = λ k b e. amount-capped k b;

@@ -1,6 +1,6 @@
 -- What each row of a well-formed ledger keeps, and the most that a sum over its rows can be. Assumes nothing.
 use mathlib.Core.Bool.{Bool, true, false, cond}
-use Prim.Native.Nat.{ℕ, _*_, _≤_, zero-le}
+use Prim.Native.Nat.{ℕ, _*_, _<_, _≤_, zero-le}
 use native.Mathlib.Nat.{mul-le-mul-right}
 use native.Mathlib.Omega.{arith}
 use lib.ListN.{length}
@@ -19,6 +19,9 @@ use Rattle.model.proofs.RowOrder.{Span}
 module _ {R : Rules} (ok : RulesLaws R) {cs : Contracts} {x : Row} (o : RowOk R cs x) where
   pub row-span : Span x
   row-span = let d = ok .days _ (x .bill) (o .ranges) in record { days = d .0; short = d .1 }
+
+  pub row-begins : 0 < x .bill .first
+  row-begins = ok .begins _ (x .bill) (o .ranges)
 
   pub amount-low : x .amount ≤ highestAmount
   unfolding partOfDue

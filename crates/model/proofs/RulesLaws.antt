@@ -43,6 +43,7 @@ pub record RulesLaws (R : Rules) : Type 0 where
   pub totals : (v : View) (book : List ℕ) → refusal R v (Call.Total with book) ≡ 0
   -- ranges: of days, of amounts, and whatever the certificate
   pub days : (k : Contract) (b : Bill) → R .billOk k b ≡ true → (b .first ≤ b .last) × (b .last ≤ lastDay)
+  pub begins : (k : Contract) (b : Bill) → R .billOk k b ≡ true → 0 < b .first
   pub low : (k : Contract) (b : Bill) → R .billOk k b ≡ true → R .amount k b ≤ highestAmount
   pub any-cert : (k : Contract) (class effective : ℕ) (b : Bill) → R .billOk k b ≡ true → R .billOk (certify k class effective) b ≡ true
   pub capped : (k : Contract) (b : Bill) → R .billOk k b ≡ true → R .amount k b ≤ R .cap k b

@@ -13,7 +13,7 @@ place-again-spec =
     (tie.spec
     (λ c κs. search needs)
     (λ c. placed-refused _ _ _ (search row-refusals depth 20) (λ z. omega arith))
-    (λ c κs. search needs)
+    (λ c κs. record { searched = search needs; at = search needs; held = search needs })
     (λ c. placed-refused _ _ _ (search row-refusals depth 20) (λ z. omega arith))
     (λ c κs. search needs)
     (λ c. placed-refused _ _ _ (search row-refusals depth 20) (λ z. omega arith))

@@ -1,31 +1,33 @@
--- `rerate_rows` re-rates one row after the other.
-use Prim.Native.Nat.{_-_, _≤_}
-use native.Mathlib.Omega.{arith}
-use Rattle.contract_calls.proofs.RowsRerating.{Passed, none-passed, passed-length, next-slot, row-passed, due-fits, changed-fits, all-passed}
+-- `rerate_rows` re-rates one row of the contract after the other.
+use Prim.Native.Nat.{_-_}
+use Rattle.contract_calls.proofs.RowsRerating.{Passed, none-passed, passed-length, next-slot, row-passed, old-fits, new-fits, changed-fits, all-passed}
 use borrow.Author.Needs.{needs}
 use Rattle.contract_calls.proofs.rerating.rerate_rows.Statement.{statement}
 use Rattle.contract_calls.proofs.rerating.rerate_rows.Tie as tie
 
 abbrev Inv-loop : tie.InvT-loop
-Inv-loop b₀ rows contract terms i₀ due₀ changed₀ b i due changed = (i ≤ rows) × Passed b₀ contract terms i b due changed
+Inv-loop b₀ rows contract terms i₀ end old₀ new₀ changed₀ b i old new changed = Passed b₀ contract terms i b old new changed
 
 abbrev μ-loop : tie.MeasureT-loop
-μ-loop b₀ rows contract terms i₀ due₀ changed₀ b i due changed = rows - i
+μ-loop b₀ rows contract terms i₀ end old₀ new₀ changed₀ b i old new changed = end - i
 
 loop-holds : tie.Need-loop-holds Inv-loop μ-loop
-loop-holds c = (omega arith, search none-passed)
+loop-holds c = search none-passed
 
 rerate-row-requires : tie.Need-rerate-row-requires Inv-loop μ-loop
 rerate-row-requires c κs = search next-slot
 
-add-due : tie.Need-add-due Inv-loop μ-loop
-add-due c = record { fits = search due-fits }
+add-old : tie.Need-add-old Inv-loop μ-loop
+add-old c = record { fits = search old-fits }
+
+add-new : tie.Need-add-new Inv-loop μ-loop
+add-new c = record { fits = search new-fits }
 
 add-changed : tie.Need-add-changed Inv-loop μ-loop
 add-changed c = record { fits = search changed-fits }
 
 loop-again : tie.Need-loop-again Inv-loop μ-loop
-loop-again c = (omega arith, search row-passed)
+loop-again c = search row-passed
 
 same-length : tie.Need-same-length Inv-loop μ-loop
 same-length c = search passed-length
@@ -39,9 +41,13 @@ rerate-rows-spec =
     (tie.spec
     Inv-loop
     μ-loop
+    (λ c κs. search needs)
+    (λ c. search needs)
+    (λ c κs. search needs)
     loop-holds
     rerate-row-requires
-    add-due
+    add-old
+    add-new
     add-changed
     (λ c. search needs)
     (λ c. search needs)

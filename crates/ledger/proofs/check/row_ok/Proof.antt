@@ -1,14 +1,12 @@
--- `row_ok` is the test `rowOk`, by what its tests find.
-use Rattle.ledger.proofs.RowTests.{closed, opened, outside, rateable, part-tested}
+-- `row_ok` is the test of a row under its contract, by what its tests find.
+use Rattle.ledger.proofs.RowTests.{outside, rateable, part-tested}
 use borrow.Author.Needs.{needs}
 use Rattle.ledger.proofs.check.row_ok.Statement.{statement}
 use Rattle.ledger.proofs.check.row_ok.Tie as tie
-
-returns : tie.Need-returns
-returns c = search closed
-
-contract-at-requires : tie.Need-contract-at-requires
-contract-at-requires c κs = search opened
+use Rattle.ledger.proofs.check.row_ok.Reads as reads
+use Rattle.ledger.proofs.check.row_ok.Lts as lts
+use Rattle.amounts.proofs.is_amount.Reads as is-amount-reads
+use Rattle.rules.proofs.ranges.bill_ok.Reads as bill-ok-reads
 
 returns-2 : tie.Need-returns-2
 returns-2 c = search outside
@@ -24,9 +22,8 @@ row-ok-spec =
     tie.close
     (tie.spec
     (λ c. search needs)
-    (λ c κs. search needs)
-    returns
-    contract-at-requires
+    (λ c. search needs)
+    (λ c. search needs)
     (λ c κs. search needs)
     returns-2
     is-amount-requires

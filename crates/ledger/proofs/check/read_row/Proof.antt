@@ -1,0 +1,36 @@
+-- `read_row` reads a slot: it is free, or a bit of its zeros is set, or it holds a row.
+use Rattle.ledger.proofs.RowTests.{slot-free, slot-bad, slot-held}
+use borrow.Author.Needs.{needs}
+use Rattle.ledger.proofs.check.read_row.Statement.{statement}
+use Rattle.ledger.proofs.check.read_row.Tie as tie
+use Rattle.ledger.proofs.check.read_row.Reads as reads
+use Rattle.ledger.proofs.check.read_row.Lts as lts
+use Rattle.codec.proofs.rows.is_held.Reads as is-held-reads
+use Rattle.codec.proofs.rows.padding_set.Reads as padding-set-reads
+use Rattle.codec.proofs.rows.unpack_row.Reads as unpack-row-reads
+
+returns : tie.Need-returns
+returns c = search slot-free
+
+returns-2 : tie.Need-returns-2
+returns-2 c = search slot-bad
+
+returns-3 : tie.Need-returns-3
+returns-3 c = search slot-held
+
+pub read-row-spec : {M : Type 1} → statement M
+read-row-spec =
+    tie.close
+    (tie.spec
+    (λ c. search needs)
+    (λ c. search needs)
+    (λ c. search needs)
+    (λ c. search needs)
+    (λ c. search needs)
+    (λ c. search needs)
+    (λ c κs. search needs)
+    returns
+    (λ c κs. search needs)
+    returns-2
+    (λ c κs. search needs)
+    returns-3)
