@@ -2,7 +2,7 @@
  * The calls of the discount ledger of the Energy Bills Discount Scheme, for C and C++.
  *
  * The calls, their numbers, answers and refusals are those of document 01, "The discount ledger of
- * the Energy Bills Discount Scheme", with papers 1 to 3 of document 02, "Later changes to the
+ * the Energy Bills Discount Scheme", with papers 1 to 4 of document 02, "Later changes to the
  * base". The library is target/staticlib/libebds_c.a, which the command `rt staticlib ebds_c`
  * proves and builds. It keeps nothing between calls and allocates nothing.
  *

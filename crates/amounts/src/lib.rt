@@ -7,9 +7,10 @@ use rates::Fuel;
 use rates::Kind;
 use rates::class_of;
 use rates::class_rate;
+use rates::greater;
 ghost use mathlib.Core.Path.{_≡_};
 ghost use mathlib.Core.Bool.{true, false};
-ghost use Prim.Native.Nat.{_+_, _*_, _≤_, max};
+ghost use Prim.Native.Nat.{_+_, _*_, _≤_};
 ghost use lib.Dec.{eqb};
 ghost use Rattle.limits.specs.Limits.{mostKwhStored, highestPrice};
 ghost use Rattle.rates.specs.Rates.{classRate};
@@ -78,13 +79,6 @@ fn kwh_before(bill: Bill, kwh: u64, day: u32) -> u64
     kwh * (day - bill.first) as u64 / days
 }
 
-// The greater of x and y.
-fn later(x: u32, y: u32) -> u32
-    ensures { λ r. ⌜ r ≡ max x y ⌝ }
-{
-    if x < y { y } else { x }
-}
-
 // Of so many kWh spread over a bill's days, of QHS from a day on, those with the new minimum.
 fn with_new_minimum(kind: Kind, bill: Bill, kwh: u64, day: u32) -> u64
     requires { ⌜ Spreadable bill kwh ⌝ }
@@ -93,7 +87,7 @@ fn with_new_minimum(kind: Kind, bill: Bill, kwh: u64, day: u32) -> u64
     if rates::entered_early(kind) {
         return 0;
     }
-    kwh - kwh_before(bill, kwh, later(day, NEW_MINIMUM_DAY))
+    kwh - kwh_before(bill, kwh, greater(day, NEW_MINIMUM_DAY))
 }
 
 // The kWh in each class of a bill without shares: all of it is under its contract's certificate.

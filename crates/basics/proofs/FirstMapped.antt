@@ -13,11 +13,7 @@ module _ {A : Type 0} (f : A → A) where
   firstMapped (suc n) [] = []
   firstMapped (suc n) (x ∷ xs) = f x ∷ firstMapped n xs
 
-  pub first-all : (xs : List A) → firstMapped (length xs) xs ≡ map f xs
-  first-all [] = refl
-  first-all (x ∷ xs) = ap (λ (ys : List A). f x ∷ ys) (first-all xs)
-
-  -- and so it is where the others stay as they are
+  -- all are mapped where the others stay as they are
   pub first-rest : (n : ℕ) (xs : List A) → All (λ x. f x ≡ x) (drop n xs) → firstMapped n xs ≡ map f xs
   first-rest zero [] a = refl
   first-rest zero (x ∷ xs) a = sym (ap₂ _∷_ (a .0) (sym (first-rest zero xs (a .1))))

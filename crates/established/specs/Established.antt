@@ -17,6 +17,7 @@ use Rattle.model.specs.NumberFifteen.{NumberFifteen}
 use Rattle.model.specs.QuarterExample.{QuarterExample}
 use Rattle.model.specs.StoredEarlier.{StoredEarlier}
 use Rattle.model.specs.Postings.{FloorLeavesRest}
+use Rattle.layout.specs.RowsInOrder.{RowsInOrder}
 use Rattle.layout.specs.Theorems.{PackedSize, FreshLedger, RoundTrips, ClaimsKept, AmountsKept, DemandThree, StoredLedgersBalance, PackedHistoriesHoldTheirFacts, PackedAnswersFromTheSheet, PackedSameAsPostings, NumberTwoFirst, NumberTwoMeetsNoCall}
 use Rattle.layout.specs.LayoutExample.{LayoutExample}
 use Rattle.contract_calls.specs.Start.{StartTests}
@@ -62,6 +63,7 @@ pub record Established : Type 0 where
   pub quarter-example : QuarterExample
   pub stored-earlier : StoredEarlier
   pub claims-kept : ClaimsKept
+  pub rows-in-order : RowsInOrder
   pub amounts-kept : AmountsKept
   pub packed-histories-hold-their-facts : PackedHistoriesHoldTheirFacts
   -- demand 3: every history balances, and the move from postings

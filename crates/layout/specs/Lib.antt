@@ -5,4 +5,5 @@ pub mod PresentLayout
 pub mod Offsets
 pub mod Present
 pub mod Theorems
+pub mod RowsInOrder
 pub mod LayoutExample

@@ -1,7 +1,7 @@
 -- The numbers of a row's slot are below their widths. Assumes nothing.
 use mathlib.Core.List.{List}
 use Prim.Native.Nat.{ℕ, _^_, _<_}
-use Rattle.limits.specs.Limits.{contractCount, dayValues}
+use Rattle.limits.specs.Limits.{contractCount}
 use Rattle.fields.specs.Fields.{fields}
 use Rattle.fields.proofs.Laws.{field-lt}
 use Rattle.records.specs.Pack.{unpack}
@@ -20,7 +20,3 @@ module _ (b : List ℕ) (i : ℕ) where
   pub row-contract-low : recordOf rowRecord (rowSlotAt rules layout b i) .bill .contract < contractCount
   unfolding slotAt slotNumbers unpack fields
   row-contract-low = field-lt (slotPart rowRecord (firstRow rules layout) b i) _ _
-
-  pub row-days-low : (recordOf rowRecord (rowSlotAt rules layout b i) .bill .first < dayValues) × (recordOf rowRecord (rowSlotAt rules layout b i) .bill .last < dayValues)
-  unfolding slotAt slotNumbers unpack fields
-  row-days-low = (field-lt (slotPart rowRecord (firstRow rules layout) b i) _ _, field-lt (slotPart rowRecord (firstRow rules layout) b i) _ _)

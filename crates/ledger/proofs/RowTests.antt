@@ -102,9 +102,6 @@ same-terms b e f = f ∙ ap (λ (n : ℕ). termsOf (contracts b n)) (sym e)
 -- ---- `row_ok`: the contract is open, the ranges are kept, the amount is the part of due
 
 module _ (terms : Terms) (x : Row) where
-  pub closed : terms ≡ Closed → false ≡ rowUnder terms x
-  closed e = rw e
-
   module _ (k : Contract) (e : terms ≡ Open k) (t : Bool) (ranges : t ≡ billOk k (x .bill)) where
     pub outside : not t ≡ true → false ≡ rowUnder terms x
     outside n = rw (e, sym ranges ∙ not-yes t n)

@@ -20,7 +20,7 @@ pub record Span (x : Row) : Type 0 where
   pub days : x .bill .first ≤ x .bill .last
   pub short : x .bill .last ≤ lastDay
 
-before-trans : (x y z : Row) → Span y → before x y → before y z → before x z
+pub before-trans : (x y z : Row) → Span y → before x y → before y z → before x z
 unfolding before
 before-trans x y z q h k = omega arith
 

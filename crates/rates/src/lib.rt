@@ -5,7 +5,7 @@ use fuels::Electricity;
 use fuels::Gas;
 use limits::NEW_MINIMUM_DAY;
 ghost use mathlib.Core.Path.{_≡_};
-ghost use Prim.Native.Nat.{_-_, _≤_, min};
+ghost use Prim.Native.Nat.{_-_, _≤_, min, max};
 ghost use Rattle.rates.specs.Prices.{pricesOf};
 ghost use Rattle.rates.specs.Rates.{part, partOf, classRate, enteredEarly, qhsClass, classOf};
 
@@ -78,6 +78,13 @@ fn lesser(x: u32, y: u32) -> u32
     ensures { λ r. ⌜ r ≡ min x y ⌝ }
 {
     if x < y { x } else { y }
+}
+
+// The greater of x and y.
+pub fn greater(x: u32, y: u32) -> u32
+    ensures { λ r. ⌜ r ≡ max x y ⌝ }
+{
+    if x < y { y } else { x }
 }
 
 // A part, in mils.

@@ -8,6 +8,7 @@ use model::Request;
 use rates::Contract;
 use rates::Fuel;
 use rates::Kind;
+use rates::greater;
 ghost use mathlib.Core.Path.{_≡_};
 ghost use lib.ListN.{getD};
 ghost use Rattle.model.specs.Book.{bookIndex, reference};
@@ -24,21 +25,21 @@ const FIRST_VARIABLE_ENTRY: usize = 2 * DAYS;
 
 const FIRST_INDEX_ENTRY: usize = FIRST_VARIABLE_ENTRY + 2 * MONTHS;
 
-// The book has another length than it must, or an entry above the highest price.
+// The book has another length than it must, or an entry above the highest price. It reads on after such an entry: of this form LLVM makes
+// steps of several entries.
 pub fn bad_book(book: &[u32]) -> bool
     ensures { λ r. ⌜ r ≡ badBook (now (book .entry)) ⌝ }
 {
     if book.len() != BOOK_LENGTH {
         return true;
     }
+    let mut highest: u32 = 0;
     let mut i: usize = 0;
     while i < book.len() {
-        if HIGHEST_PRICE < book[i] {
-            return true;
-        }
+        highest = greater(highest, book[i]);
         i += 1;
     }
-    false
+    HIGHEST_PRICE < highest
 }
 
 // The entry of a fixed, variable or index contract's price.

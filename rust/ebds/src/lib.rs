@@ -3,7 +3,7 @@
 //! [`Ledger`] owns a packed ledger and takes and answers typed values; [`calls`] has the same
 //! calls on bytes of any length and with any numbers. Both go through the C library of
 //! include/ebds.h. The terms are those of document 01, "The discount ledger of the Energy Bills
-//! Discount Scheme", and of papers 1 to 3 of document 02, "Later changes to the base".
+//! Discount Scheme", and of papers 1 to 4 of document 02, "Later changes to the base".
 
 pub mod calls;
 mod ledger;

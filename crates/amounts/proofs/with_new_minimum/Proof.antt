@@ -14,7 +14,7 @@ returns-2 c =
     let tested = c .before .before in
     let start = tested .before .before in
     from-new-minimum (start .args .kind) (start .args .bill) (start .args .kwh) (start .args .day) (start .pre .days) _ (tested .before .entered-early .ensures) (tested .if1 .left)
-    _ _ (c .before .later .ensures) (c .kwh-before .ensures .0)
+    _ _ (c .before .greater .ensures) (c .kwh-before .ensures .0)
 
 pub with-new-minimum-spec : {M : Type 1} → statement M
 with-new-minimum-spec =

@@ -3,9 +3,6 @@ use mathlib.Core.Path.{sym, _∙_}
 use borrow.Author.Needs.{needs}
 use Rattle.ledger.proofs.check.check_rest.Statement.{statement}
 use Rattle.ledger.proofs.check.check_rest.Tie as tie
-use Rattle.ledger.proofs.check.check_rest.Reads as reads
-use Rattle.ledger.proofs.check.check_rest.Lts as lts
-use Rattle.records.proofs.is_zero.Reads as is-zero-reads
 
 returns : tie.Need-returns
 returns c = rw (sym (c .before .is-zero .ensures) ∙ c .if1 .taken)

@@ -3,10 +3,6 @@ use Rattle.ledger.proofs.RowTests.{not-after, is-after}
 use borrow.Author.Needs.{needs}
 use Rattle.ledger.proofs.check.follows.Statement.{statement}
 use Rattle.ledger.proofs.check.follows.Tie as tie
-use Rattle.ledger.proofs.check.follows.Reads as reads
-use Rattle.ledger.proofs.check.follows.Lts as lts
-use Rattle.ledger.proofs.check.row_ok.Reads as row-ok-reads
-use Rattle.ledger.proofs.rows.comes_after.Reads as comes-after-reads
 
 returns : tie.Need-returns
 returns c = search not-after

@@ -3,11 +3,6 @@ use Rattle.ledger.proofs.RowTests.{slot-free, slot-bad, slot-held}
 use borrow.Author.Needs.{needs}
 use Rattle.ledger.proofs.check.read_row.Statement.{statement}
 use Rattle.ledger.proofs.check.read_row.Tie as tie
-use Rattle.ledger.proofs.check.read_row.Reads as reads
-use Rattle.ledger.proofs.check.read_row.Lts as lts
-use Rattle.codec.proofs.rows.is_held.Reads as is-held-reads
-use Rattle.codec.proofs.rows.padding_set.Reads as padding-set-reads
-use Rattle.codec.proofs.rows.unpack_row.Reads as unpack-row-reads
 
 returns : tie.Need-returns
 returns c = search slot-free

@@ -3,10 +3,6 @@ use Rattle.ledger.proofs.RowTests.{outside, rateable, part-tested}
 use borrow.Author.Needs.{needs}
 use Rattle.ledger.proofs.check.row_ok.Statement.{statement}
 use Rattle.ledger.proofs.check.row_ok.Tie as tie
-use Rattle.ledger.proofs.check.row_ok.Reads as reads
-use Rattle.ledger.proofs.check.row_ok.Lts as lts
-use Rattle.amounts.proofs.is_amount.Reads as is-amount-reads
-use Rattle.rules.proofs.ranges.bill_ok.Reads as bill-ok-reads
 
 returns-2 : tie.Need-returns-2
 returns-2 c = search outside

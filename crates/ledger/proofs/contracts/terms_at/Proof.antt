@@ -4,10 +4,6 @@ use Rattle.ledger.proofs.RowTests.{terms-closed, terms-open}
 use borrow.Author.Needs.{needs}
 use Rattle.ledger.proofs.contracts.terms_at.Statement.{statement}
 use Rattle.ledger.proofs.contracts.terms_at.Tie as tie
-use Rattle.ledger.proofs.contracts.terms_at.Reads as reads
-use Rattle.ledger.proofs.contracts.terms_at.Lts as lts
-use Rattle.ledger.proofs.contracts.contract_at.Reads as contract-at-reads
-use Rattle.ledger.proofs.contracts.is_open.Reads as is-open-reads
 
 contract-at-requires : tie.Need-contract-at-requires
 contract-at-requires c κs = search (needs, was-true)

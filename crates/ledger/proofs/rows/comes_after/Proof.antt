@@ -3,8 +3,6 @@ use borrow.Author.Tests.{lt-ltb, le-ltb, eq-eqb, ne-eqb}
 use borrow.Author.Needs.{needs}
 use Rattle.ledger.proofs.rows.comes_after.Statement.{statement}
 use Rattle.ledger.proofs.rows.comes_after.Tie as tie
-use Rattle.ledger.proofs.rows.comes_after.Reads as reads
-use Rattle.ledger.proofs.rows.comes_after.Lts as lts
 
 returns : tie.Need-returns
 returns c = simp (lt-ltb _ _ (c .if1 .taken))

@@ -8,10 +8,6 @@ use Rattle.ledger.proofs.Search.{Between, search-begins, row-passes, up
 use borrow.Author.Needs.{needs}
 use Rattle.ledger.proofs.rows.first_reaching.Statement.{statement}
 use Rattle.ledger.proofs.rows.first_reaching.Tie as tie
-use Rattle.ledger.proofs.rows.first_reaching.Reads as reads
-use Rattle.ledger.proofs.rows.first_reaching.Lts as lts
-use Rattle.ledger.proofs.rows.is_reaching.Reads as is-reaching-reads
-use Rattle.ledger.proofs.rows.row_at.Reads as row-at-reads
 
 abbrev Inv-loop : tie.InvT-loop
 Inv-loop b rows contract day low₀ high₀ low high = (high ≤ rows) × Between b (reaches contract day) low high

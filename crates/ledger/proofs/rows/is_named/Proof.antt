@@ -4,8 +4,6 @@ use Rattle.model.specs.Calls.{named}
 use borrow.Author.Needs.{needs}
 use Rattle.ledger.proofs.rows.is_named.Statement.{statement}
 use Rattle.ledger.proofs.rows.is_named.Tie as tie
-use Rattle.ledger.proofs.rows.is_named.Reads as reads
-use Rattle.ledger.proofs.rows.is_named.Lts as lts
 
 returns : tie.Need-returns
 unfolding named

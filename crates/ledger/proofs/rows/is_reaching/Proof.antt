@@ -4,8 +4,6 @@ use Rattle.model.specs.Places.{reaches}
 use borrow.Author.Needs.{needs}
 use Rattle.ledger.proofs.rows.is_reaching.Statement.{statement}
 use Rattle.ledger.proofs.rows.is_reaching.Tie as tie
-use Rattle.ledger.proofs.rows.is_reaching.Reads as reads
-use Rattle.ledger.proofs.rows.is_reaching.Lts as lts
 
 returns : tie.Need-returns
 unfolding reaches

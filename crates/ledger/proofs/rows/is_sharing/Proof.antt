@@ -4,8 +4,6 @@ use Rattle.model.specs.Calls.{sharing}
 use borrow.Author.Needs.{needs}
 use Rattle.ledger.proofs.rows.is_sharing.Statement.{statement}
 use Rattle.ledger.proofs.rows.is_sharing.Tie as tie
-use Rattle.ledger.proofs.rows.is_sharing.Reads as reads
-use Rattle.ledger.proofs.rows.is_sharing.Lts as lts
 
 returns : tie.Need-returns
 unfolding sharing

@@ -5,11 +5,6 @@ use Rattle.ledger.proofs.Search.{named-none, named-there, named-other}
 use borrow.Author.Needs.{needs}
 use Rattle.ledger.proofs.rows.place_named.Statement.{statement}
 use Rattle.ledger.proofs.rows.place_named.Tie as tie
-use Rattle.ledger.proofs.rows.place_named.Reads as reads
-use Rattle.ledger.proofs.rows.place_named.Lts as lts
-use Rattle.ledger.proofs.rows.first_reaching.Reads as first-reaching-reads
-use Rattle.ledger.proofs.rows.is_named.Reads as is-named-reads
-use Rattle.ledger.proofs.rows.row_at.Reads as row-at-reads
 
 returns : tie.Need-returns
 returns c = search named-none

@@ -8,10 +8,6 @@ use Rattle.ledger.proofs.Search.{Between, search-begins, row-passes, ro
 use borrow.Author.Needs.{needs}
 use Rattle.ledger.proofs.rows.place_of_new.Statement.{statement}
 use Rattle.ledger.proofs.rows.place_of_new.Tie as tie
-use Rattle.ledger.proofs.rows.place_of_new.Reads as reads
-use Rattle.ledger.proofs.rows.place_of_new.Lts as lts
-use Rattle.ledger.proofs.rows.comes_after.Reads as comes-after-reads
-use Rattle.ledger.proofs.rows.row_at.Reads as row-at-reads
 
 abbrev Inv-loop : tie.InvT-loop
 Inv-loop b rows contract first i₀ i = (i ≤ rows) × Between b (comesAfter contract first) i rows

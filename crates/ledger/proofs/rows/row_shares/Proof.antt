@@ -5,10 +5,6 @@ use Rattle.ledger.proofs.Search.{first-none, first-there}
 use borrow.Author.Needs.{needs}
 use Rattle.ledger.proofs.rows.row_shares.Statement.{statement}
 use Rattle.ledger.proofs.rows.row_shares.Tie as tie
-use Rattle.ledger.proofs.rows.row_shares.Reads as reads
-use Rattle.ledger.proofs.rows.row_shares.Lts as lts
-use Rattle.ledger.proofs.rows.is_sharing.Reads as is-sharing-reads
-use Rattle.ledger.proofs.rows.row_at.Reads as row-at-reads
 
 returns : tie.Need-returns
 returns c = search first-none

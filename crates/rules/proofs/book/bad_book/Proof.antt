@@ -1,20 +1,30 @@
--- `bad_book` is the test of a book: the entries passed are in range.
-use Prim.Native.Nat.{ℕ, _-_, _≤_, _<_}
-use native.Mathlib.Nat.{not-suc-le-zero}
+-- `bad_book` is the test of a book: its length, and the highest of its entries.
+use mathlib.Core.Path.{_∙_}
+use Prim.Native.Nat.{_-_}
 use native.Mathlib.Omega.{arith}
-use borrow.Author.Count.{below-more}
-use lib.ListN.{length, getD}
-use Rattle.limits.specs.Limits.{highestPrice}
-use Rattle.rules.proofs.Books.{book-length, book-high, book-good}
+use lib.ListN.{length}
+use Rattle.rules.proofs.Books.{HighestTo, book-length, highest-none, highest-next, book-tested}
 use borrow.Author.Needs.{needs}
 use Rattle.rules.proofs.book.bad_book.Statement.{statement}
 use Rattle.rules.proofs.book.bad_book.Tie as tie
 
 abbrev Inv-loop : tie.InvT-loop
-Inv-loop book i₀ i = (i ≤ length book) × ((k : ℕ) → k < i → getD book k 0 ≤ highestPrice)
+Inv-loop book highest₀ i₀ highest i = HighestTo book i highest
 
 abbrev μ-loop : tie.MeasureT-loop
-μ-loop book i₀ i = length book - i
+μ-loop book highest₀ i₀ highest i = length book - i
+
+returns : tie.Need-returns Inv-loop μ-loop
+returns c = search book-length
+
+loop-holds : tie.Need-loop-holds Inv-loop μ-loop
+loop-holds c = highest-none _
+
+loop-again : tie.Need-loop-again Inv-loop μ-loop
+loop-again c = search highest-next
+
+returns-2 : tie.Need-returns-2 Inv-loop μ-loop
+returns-2 c = search book-tested
 
 pub bad-book-spec : {M : Type 1} → statement M
 bad-book-spec =
@@ -22,12 +32,12 @@ bad-book-spec =
     (tie.spec
     Inv-loop
     μ-loop
-    (λ c. search book-length)
-    (λ c. (omega arith, λ k h. absurd (not-suc-le-zero h)))
+    returns
+    loop-holds
     (λ c. search needs)
     (λ c. search needs)
-    (λ c. search book-high)
+    (λ c κs. search needs)
     (λ c. search needs)
     (λ c. search needs)
-    (λ c. (omega arith, below-more _ _ (c .before .before .before .loop .inv .1) (c .if2 .left)))
-    (λ c. search book-good))
+    loop-again
+    returns-2)
