@@ -178,7 +178,7 @@ pub fn amount(contract: Contract, bill: Bill) -> u64
     at_rates(contract, bill, whole_by_class(contract, bill))
 }
 
-// The amount of a bill without shares. A certificate asks it of each of its contract's rows and is its one caller: LLVM inlines a function
+// The amount of a bill without shares. A certificate asks it of such rows of its contract and is its one caller: LLVM inlines a function
 // with one caller whatever its size, and `amount` has several.
 pub fn whole_amount(contract: Contract, bill: Bill) -> u64
     requires { ⌜ Rateable bill × (hasShares bill ≡ false) ⌝ }

@@ -1,4 +1,4 @@
--- A list whose first n elements are mapped, as a loop that rewrites each place leaves it after n turns. Assumes nothing.
+-- A list whose first n elements are mapped, as a loop that rewrites each place leaves it at place n. Assumes nothing.
 use mathlib.Core.Path.{_≡_, refl, sym, ap, ap₂, _∙_}
 use mathlib.Core.List.{List, [], _∷_, map}
 use Prim.Native.Nat.{ℕ, zero, suc, _+_, _<_}

@@ -60,7 +60,7 @@ placed-at i number place none e = rw (← none) (ap Placed.At e)
 -- ---- the held rows, by what was found in the packed ledger
 
 module _ (b : List ℕ) (rows : ℕ) (s : Searched b rows) where
-  pub row-found : (p : Bill → Bool) (place : ℕ) → place ≡ placeOf p (facts b .rows) → ltb place rows ≡ ltb 0 (viewOf b .held p)
+  row-found : (p : Bill → Bool) (place : ℕ) → place ≡ placeOf p (facts b .rows) → ltb place rows ≡ ltb 0 (viewOf b .held p)
   unfolding view
   row-found p place e = ap₂ (λ (m n : ℕ). ltb m n) e (s .count) ∙ sym (count-at p (facts b .rows))
 

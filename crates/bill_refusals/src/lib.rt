@@ -5,7 +5,7 @@ use ledger::contracts::refused_contract;
 use ledger::rows::first_reaching;
 use ledger::rows::place_named;
 use ledger::rows::place_of_new;
-use ledger::rows::row_shares;
+use ledger::rows::row_shares_day;
 use limits::ROW_COUNT;
 use model::Request;
 use rates::Contract;
@@ -72,7 +72,7 @@ fn shares_day(b: &[u8], rows: usize, contract: u32, first: u32, last: u32) -> bo
     ensures { λ r. ⌜ r ≡ ltb 0 (viewOf (now (b .entry)) .held (sharing contract first last)) ⌝ }
 {
     let place = first_reaching(b, rows, contract, first);
-    row_shares(b, rows, place, contract, first, last)
+    row_shares_day(b, rows, place, contract, first, last)
 }
 
 // Whether another held row than the one with that contract and first day shares a day with the span: only the next row can.
@@ -87,7 +87,7 @@ fn other_shares_day(
     requires { ⌜ RowHeld (now b) rows place contract first ⌝ }
     ensures { λ r. ⌜ r ≡ ltb 0 (viewOf (now (b .entry)) .held (λ x. sharing contract first last x && not (named contract first x))) ⌝ }
 {
-    row_shares(b, rows, place + 1, contract, first, last)
+    row_shares_day(b, rows, place + 1, contract, first, last)
 }
 
 // Refusals 10 to 12 of a bill, or the place of its row: before the first that sorts after it.

@@ -1,13 +1,12 @@
 -- The sums of a report, by one row of the contract after the other. Assumes nothing.
 use mathlib.Core.Path.{_≡_}
-use mathlib.Core.Logic.{_≢_}
 use mathlib.Core.Bool.{Bool, cond}
 use mathlib.Core.List.{List, []}
 use Prim.Native.Nat.{ℕ, _+_, _*_, _^_, _≤_, _<_}
 use native.Mathlib.Omega.{arith}
 use Rattle.limits.specs.Limits.{mostKwhStored, rowCount}
 use Rattle.basics.specs.Lists.{total}
-use Rattle.basics.proofs.Tests.{yes-eq, no-eq}
+use Rattle.basics.proofs.Tests.{yes-eq}
 use Rattle.model.specs.declared.Row.{Row}
 use Rattle.model.specs.declared.Answer.the-variants.{Reported}
 use Rattle.model.specs.declared.Call.{Call}
@@ -20,24 +19,16 @@ use Rattle.model.proofs.RowBounds.{passing-most, count-low, amounts-low}
 use Rattle.layout.specs.Present.{rules, facts, rowAt, Searched}
 use Rattle.layout.proofs.Present.{present, facts-kept}
 use Rattle.ledger.proofs.EachRow.{row-there, row-read, SummedTo, summed-next, summed-most}
-use Rattle.ledger.proofs.ContractRows.{below-end, own-contract, summed-begins, summed-ends}
+use Rattle.ledger.proofs.ContractRows.{forContract, others-weightless, below-end, own-contract, summed-begins, summed-ends}
 
 pub kwh-low : (l : Ledger) → WellFormed rules l → (p : Row → Bool) → total (λ x. cond (p x) (x .bill .kwh) 0) (l .rows) ≤ rowCount * mostKwhStored
 kwh-low l f p = passing-most f p (λ x. x .bill .kwh) mostKwhStored (λ x o. bill-ranges _ (x .bill) (o .ranges) .rateable .kwh)
-
--- w of a row of contract c, and 0 of any other row
-abbrev forContract : ℕ → (Row → ℕ) → Row → ℕ
-forContract c w x = cond (ofContract c x) (w x) 0
 
 -- the contract's rows among those before place i: how many, their kWh and their due
 pub record ReportedTo (b : List ℕ) (c i rows kwh due : ℕ) : Type 0 where
   pub rows-to : SummedTo (forContract c (λ x. 1)) (facts b .rows) i rows
   pub kwh-to : SummedTo (forContract c (λ x. x .bill .kwh)) (facts b .rows) i kwh
   pub due-to : SummedTo (forContract c (λ x. x .amount)) (facts b .rows) i due
-
--- a row of another contract weighs nothing
-others-weightless : (c : ℕ) (w : Row → ℕ) (x : Row) → x .bill .contract ≢ c → forContract c w x ≡ 0
-others-weightless c w x n = rw (no-eq (x .bill .contract) c n)
 
 module _ (b : List ℕ) (c n : ℕ) (s : Searched b n) where
   pub reported-begins : (i : ℕ) → i ≡ placeOf (reaches c 0) (facts b .rows) → ReportedTo b c i 0 0 0

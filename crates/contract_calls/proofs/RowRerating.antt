@@ -43,12 +43,11 @@ module _ (new old : ℕ) where
 -- ---- the row x of slot i, which is one of the contract
 
 module _ (b : List ℕ) (i contract : ℕ) (terms : Contract) (slot : RowInSlot b i contract terms) (x : Row) (read : x ≡ rowAt b i) where
-  module _ (h : Bool) (e : h ≡ hasShares (x .bill)) (none : h ≡ false) where
-    pub bill-rateable : Rateable (x .bill)
-    bill-rateable = rw read (slot .rateable)
+  pub bill-rateable : Rateable (x .bill)
+  bill-rateable = rw read (slot .rateable)
 
-    pub bill-whole : hasShares (x .bill) ≡ false
-    bill-whole = sym e ∙ none
+  pub bill-whole : (h : Bool) → h ≡ hasShares (x .bill) → h ≡ false → hasShares (x .bill) ≡ false
+  bill-whole h e none = sym e ∙ none
 
   is-old : x .amount ≡ rowAt b i .amount
   is-old = ap (λ (y : Row). y .amount) read
@@ -70,7 +69,7 @@ module _ (b : List ℕ) (i contract : ℕ) (terms : Contract) (slot : RowInSlot 
   pub shares-stay : (h : Bool) → h ≡ hasShares (x .bill) → h ≡ true → RowRerated contract terms b i (record { old = x .amount; new = x .amount; changed = 0 }) b
   shares-stay h e some = row-stays (rw read (sym (slot .set-aside (rw read at (sym e ∙ some)))))
 
-  -- it has no shares, and this amount
+  -- its amount under the terms is a
   module _ (a : ℕ) (rated : a ≡ amount terms (x .bill)) where
     pub amount-stays : a ≡ x .amount → RowRerated contract terms b i (record { old = x .amount; new = x .amount; changed = 0 }) b
     amount-stays same = row-stays (sym same ∙ rated)

@@ -11,7 +11,7 @@ use lib.ListN.{length, take, drop}
 use lib.Seq.{drop-drop}
 use Rattle.limits.specs.Limits.{rowCount}
 use Rattle.basics.specs.Lists.{total}
-use Rattle.basics.proofs.Tests.{either, eq-yes, yes-eq, eq-no, no-eq}
+use Rattle.basics.proofs.Tests.{either, eq-yes, yes-eq, eq-no}
 use Rattle.basics.proofs.Lists.{all-at, total-cong, total-split, total-map}
 use Rattle.basics.proofs.Integers.{sub-same}
 use Rattle.basics.proofs.FirstMapped.{firstMapped, length-first, first-next}
@@ -40,22 +40,15 @@ use Rattle.layout.proofs.HeldRows.{rows-most}
 use Rattle.edits.proofs.PackedChanges.{length-row, replaced-row}
 use Rattle.ledger.proofs.EachRow.{row-inside, row-there, row-read, SummedTo, summed-next, summed-most}
 use Rattle.ledger.proofs.Search.{spans, apart}
-use Rattle.ledger.proofs.ContractRows.{below-end, own-contract, summed-begins, summed-ends}
+use Rattle.ledger.proofs.ContractRows.{forContract, others-weightless, below-end, own-contract, summed-begins, summed-ends}
 use Rattle.contract_calls.specs.declared.rerating.Rerated.{Rerated}
 use Rattle.contract_calls.specs.Rerating.{Rerateable, RowInSlot, newAmount, amountChanges, RowRerated, RowsRerated}
 use Rattle.contract_calls.proofs.RowsInSlots.{same-row, row-packed}
 use Rattle.contract_calls.proofs.RowRerating.{other-row, own-row, unchanged}
 
--- w of a row of the contract, and 0 of any other row
-abbrev forContract : ℕ → (Row → ℕ) → Row → ℕ
-forContract contract w x = cond (ofContract contract x) (w x) 0
-
--- ---- rows of other contracts weigh nothing and stay as they are
+-- ---- rows of other contracts stay as they are
 
 module _ (contract : ℕ) (terms : Contract) where
-  others-weightless : (w : Row → ℕ) (x : Row) → x .bill .contract ≢ contract → forContract contract w x ≡ 0
-  others-weightless w x n = rw (no-eq (x .bill .contract) contract n)
-
   others-unchanged : (x : Row) → x .bill .contract ≢ contract → _≡_ {A = ℕ} (cond (amountChanges contract terms x) 1 0) 0
   others-unchanged x n = sym (unchanged _ _ (ap (λ (y : Row). y .amount) (other-row contract terms x n)))
 
@@ -131,8 +124,8 @@ module _ (b₀ : List ℕ) (rows contract : ℕ) (terms : Contract) (t : Reratea
     from = omega arith;
     left = sym (ap (λ (ys : List Row). bytes (withRows (facts b₀) ys)) (ap (λ (n : ℕ). firstMapped f n xs) e ∙ same-before contract xs (spans b₀ rows s) (apart b₀ rows s) f (other-row contract terms)) ∙ repacked b₀ (s .formed));
     rest = refl;
-    olds = summed-begins b₀ rows s contract _ (others-weightless contract terms (λ x. x .amount)) i e;
-    news = summed-begins b₀ rows s contract _ (others-weightless contract terms (newAmount contract terms)) i e;
+    olds = summed-begins b₀ rows s contract _ (others-weightless contract (λ x. x .amount)) i e;
+    news = summed-begins b₀ rows s contract _ (others-weightless contract (newAmount contract terms)) i e;
     changes = summed-begins b₀ rows s contract _ (others-unchanged contract terms) i e;
   }
 
@@ -214,8 +207,8 @@ module _ (b₀ : List ℕ) (rows contract : ℕ) (terms : Contract) (t : Reratea
 
       pub all-passed : end ≤ i → RowsRerated contract terms b₀ (record { old = old; new = new; changed = changed }) b
       all-passed h = record {
-        old = summed-ends b₀ rows s contract _ (others-weightless contract terms (λ x. x .amount)) i end ends h (p .olds);
-        new = summed-ends b₀ rows s contract _ (others-weightless contract terms (newAmount contract terms)) i end ends h (p .news);
+        old = summed-ends b₀ rows s contract _ (others-weightless contract (λ x. x .amount)) i end ends h (p .olds);
+        new = summed-ends b₀ rows s contract _ (others-weightless contract (newAmount contract terms)) i end ends h (p .news);
         changed = summed-ends b₀ rows s contract _ (others-unchanged contract terms) i end ends h (p .changes);
         left = p .left ∙ ap (λ (ys : List Row). bytes (withRows (facts b₀) ys)) (same-after contract xs (spans b₀ rows s) (apart b₀ rows s) f (other-row contract terms) i (omega arith));
         long = p .long;

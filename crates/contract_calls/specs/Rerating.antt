@@ -29,7 +29,7 @@ pub record Certifiable (b : List ℕ) (rows contract class effective : ℕ) : Ty
   pub searched : Searched b rows
   pub accepted : 0 ≡ refusal rules (viewOf b) (Call.Cert contract class effective with [])
 
--- a well-formed ledger with that many rows, and terms that differ from those of the contract in the certificate alone
+-- a well-formed ledger with that many rows, the number of a contract, and terms that differ from the contract's in the certificate alone
 pub record Rerateable (b : List ℕ) (rows contract : ℕ) (terms : Contract) : Type 0 where
   pub searched : Searched b rows
   pub number : contract < contractCount

@@ -16,7 +16,8 @@ use Rattle.model.proofs.NumberFifteen.{number-fifteen}
 use Rattle.model.proofs.QuarterExample.{quarter-example}
 use Rattle.model.proofs.StoredEarlier.{stored-earlier}
 use Rattle.model.proofs.Postings.{floor-leaves-rest}
-use Rattle.layout.proofs.Theorems.{packed-size, fresh-ledger, round-trips, claims-kept, rows-in-order, amounts-kept, demand-three, stored-ledgers-balance, packed-histories-hold-their-facts, packed-answers-from-the-sheet, packed-same-as-postings, number-two-first, number-two-meets-no-call}
+use Rattle.layout.proofs.Theorems.{packed-size, fresh-ledger, round-trips, claims-kept, amounts-kept, demand-three, stored-ledgers-balance, packed-histories-hold-their-facts, packed-answers-from-the-sheet, packed-same-as-postings, number-two-first, number-two-meets-no-call}
+use Rattle.layout.proofs.RowsInOrder.{rows-in-order}
 use Rattle.layout.proofs.LayoutExample.{layout-example}
 use Rattle.contract_calls.proofs.StartAnswers.{start-tests}
 use Rattle.text.proofs.RoundTrip.{numbers-read-back}

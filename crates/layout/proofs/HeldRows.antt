@@ -39,14 +39,17 @@ module _ {R : Rules} {L : Layout} (laws : Lawful R L) (b : List ℕ) (f : wellFo
   unfolding rowSlots
   slot-held i h = slot-holds (L .row) (row-whole laws) rowCount (firstRow R L) b (rows-inside laws b formed-length) i h
 
+  -- held rows come first
+  pub rows-first : rowSlots R L b ≡ places rowCount rows
+  unfolding ledgerOf
+  rows-first = sym (ap (λ (n : ℕ). places n rows) (sym (length-rowSlots R L b)) ∙ places-held comesBefore (rowSlots R L b) (tests .order))
+
   pub row-held : (i : ℕ) (d : Row) → i < length rows → rowAt R L b i ≡ getD rows i d
   unfolding ledgerOf slotIn rowAt
   row-held i d h =
       let m : i < rowCount = omega (arith, rows-most) in
-      let e : places rowCount rows ≡ rowSlots R L b =
-      ap (λ (n : ℕ). places n rows) (sym (length-rowSlots R L b)) ∙ places-held comesBefore (rowSlots R L b) (tests .order) in
       let s : slotIn (L .row) (rowSlotAt R L b i) ≡ some (getD rows i d) =
-      sym (slot-held i m) ∙ ap (λ (os : List (Option Row)). getD os i none) (sym e) ∙ place-held rowCount rows d i h in
+      sym (slot-held i m) ∙ ap (λ (os : List (Option Row)). getD os i none) rows-first ∙ place-held rowCount rows d i h in
       go (eqb (getD (rowSlotAt R L b i) 0 0) 0) s
     where
       go : (z : Bool) → cond z none (some (recordOf (L .row) (rowSlotAt R L b i))) ≡ some (getD rows i d) → recordOf (L .row) (rowSlotAt R L b i) ≡ getD rows i d

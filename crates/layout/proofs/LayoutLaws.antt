@@ -1,6 +1,6 @@
 -- What a layout owes, and the tests of a well-formed ledger by name. Assumes nothing.
-use mathlib.Core.Path.{_≡_, refl, sym, ap, _∙_}
-use mathlib.Core.Bool.{true, false, not, _||_}
+use mathlib.Core.Path.{_≡_, refl, ap}
+use mathlib.Core.Bool.{true, not, _||_}
 use mathlib.Core.List.{List, [], _∷_, map}
 use Prim.Native.Nat.{ℕ, zero, suc, _^_, _≤_, _<_}
 use native.Mathlib.Omega.{arith}
@@ -18,8 +18,8 @@ use Rattle.records.specs.Places.{inOrder}
 use Rattle.records.specs.Pairs.{everyPair}
 use Rattle.rates.specs.declared.Contract.{Contract}
 use Rattle.model.specs.declared.Row.{Row}
-use Rattle.model.specs.Contracts.{Contracts, contractOf, isOpen}
-use Rattle.model.specs.Rules.{Rules, partOfDue}
+use Rattle.model.specs.Contracts.{Contracts}
+use Rattle.model.specs.Rules.{Rules}
 use Rattle.model.specs.WellFormed.{RowOk}
 use Rattle.layout.specs.Layout.{Layout, rowTests, rowOk, comesBefore, firstContract, firstRow, ledgerLength, claimsIn, penceIn, contractsIn, rowSlots, contractTest, rowTest, wellFormedTests, wellFormed}
 

@@ -12,4 +12,5 @@ pub mod Machine
 pub mod PresentLayout
 pub mod Present
 pub mod Theorems
+pub mod RowsInOrder
 pub mod LayoutExample

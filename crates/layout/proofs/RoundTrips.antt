@@ -33,8 +33,7 @@ use Rattle.model.specs.Rules.{Rules}
 use Rattle.model.specs.Ledger.{Ledger}
 use Rattle.model.specs.WellFormed.{RowOk, WellFormed}
 use Rattle.model.specs.Format.{FormatLaws}
-use Rattle.model.proofs.RowOrder.{Span}
-use Rattle.model.proofs.RowBounds.{row-span}
+use Rattle.model.proofs.RowBounds.{row-spans}
 use Rattle.layout.specs.Layout.{Layout, rowOk, comesBefore, firstContract, firstRow, ledgerLength, territoryIn, claimsIn, penceIn, contractSlots, contractsIn, rowSlots, contractTest, rowTest, wellFormed, ledgerOf, headerBytes, contractBytes, rowBytes, bytesOf, format}
 use Rattle.layout.proofs.Order.{pairs-apart, apart-pairs}
 use Rattle.layout.proofs.Lawful.{Lawful}
@@ -218,7 +217,7 @@ module _ {R : Rules} {L : Layout} (laws : Lawful R L) where
       contracts = contracts-tested;
       rows = rows-tested;
       order = ap (everyPair (inOrder comesBefore)) rows-back
-          ∙ pairs-places comesBefore rowCount (l .rows) (apart-pairs (l .rows) (all-map (RowOk R (l .contracts)) Span (λ x o. row-span (laws .rules) o) (l .rows) (f .rows)) (f .apart));
+          ∙ pairs-places comesBefore rowCount (l .rows) (apart-pairs (l .rows) (row-spans (laws .rules) (l .contracts) (l .rows) (f .rows)) (f .apart));
     })
 
   -- ---- the facts of well-formed bytes
@@ -254,7 +253,7 @@ module _ {R : Rules} {L : Layout} (laws : Lawful R L) where
           ∙ numbered-passes (L .contract) (contractTest R L b) (contractSlots R L b) contracts-passed c (contractAt (contractsIn R L b) c) (open-contract (contractsIn R L b) c e);
       count = omega (arith, length-held (rowSlots R L b), length-rowSlots R L b);
       rows = held-rows;
-      apart = pairs-apart (held (rowSlots R L b)) (all-map (RowOk R (contractsIn R L b)) Span (λ x o. row-span (laws .rules) o) (held (rowSlots R L b)) held-rows)
+      apart = pairs-apart (held (rowSlots R L b)) (row-spans (laws .rules) (contractsIn R L b) (held (rowSlots R L b)) held-rows)
           (pairs-held comesBefore (rowSlots R L b) (s .order));
     }
 

@@ -1,5 +1,5 @@
--- What is read of one row slot says, and each turn of the pass over the rows, from what is still to be found to what is found. The pass holds
--- the contract and the last day of the row before. Assumes nothing.
+-- What the reading of a row slot says, and each turn of the pass over the rows, from what is still to be found to what is found. The pass
+-- holds the contract and the last day of the row before. Assumes nothing.
 use mathlib.Core.Path.{_≡_, refl, sym, ap, ap₂, _∙_, subst}
 use mathlib.Core.Bool.{Bool, true, false, cond, _&&_}
 use mathlib.Core.List.{List, [], _∷_, map}
@@ -11,7 +11,7 @@ use lib.Seq.{drop-length}
 use Rattle.limits.specs.Limits.{rowCount}
 use Rattle.basics.specs.Tests.{every}
 use Rattle.basics.specs.Lists.{total}
-use Rattle.basics.proofs.Tests.{either, eq-yes, yes-eq, yes-lt, lt-yes, lt-no, and-left, and-right, or-yes}
+use Rattle.basics.proofs.Tests.{either, eq-yes, yes-lt, lt-yes, and-left}
 use Rattle.fields.specs.Field.{AreBytes}
 use Rattle.records.specs.Pack.{size}
 use Rattle.records.specs.Slots.{whole, allZero, slotIn, slotOk, slots, arrayIn}
@@ -26,7 +26,8 @@ use Rattle.model.specs.Contracts.{Contracts}
 use Rattle.model.specs.Rules.{Rules}
 use Rattle.model.specs.Ledger.{comesAfter}
 use Rattle.model.specs.WellFormed.{before}
-use Rattle.model.proofs.RowOrder.{Span}
+use Rattle.model.proofs.RowOrder.{Span, contracts-ascend, begins-later}
+use Rattle.model.proofs.ContractThenDay.{by-day, contract-or-day, carried}
 use Rattle.model.proofs.RowBounds.{row-span, row-begins, amount-low}
 use Rattle.layout.specs.Layout.{Layout, rowOk, comesBefore, firstRow, ledgerLength, contractsIn, rowSlots}
 use Rattle.layout.specs.declared.Checked.{Checked}
@@ -58,52 +59,25 @@ pub record Passing (R : Rules) (L : Layout) (b : List ℕ) (i contract last due 
 
 -- ---- a row comes after the contract and last day of another just where it comes after that row
 
-module _ (c day : ℕ) (x : Row) where
-  after-later : c < x .bill .contract → comesAfter c day (x .bill) ≡ true
-  after-later h = rw (yes-lt c (x .bill .contract) h)
-
-  after-own : c ≡ x .bill .contract → day < x .bill .first → comesAfter c day (x .bill) ≡ true
-  after-own e h = either (ltb c (x .bill .contract)) (λ l. rw l) (λ l. rw (l, yes-eq c (x .bill .contract) e, yes-lt day (x .bill .first) h))
-
-  after-cases : {X : Type 0} → comesAfter c day (x .bill) ≡ true → (c < x .bill .contract → X) → (c ≡ x .bill .contract → day < x .bill .first → X) → X
-  after-cases e later own = either (ltb c (x .bill .contract))
-      (λ l. later (lt-yes c (x .bill .contract) l))
-      (λ l.
-      let g = or-yes (ltb c (x .bill .contract)) _ e l in
-      own (eq-yes c (x .bill .contract) (and-left (eqb c (x .bill .contract)) _ g)) (lt-yes day (x .bill .first) (and-right (eqb c (x .bill .contract)) _ g)))
-
 module _ (x y : Row) (p : Span x) (q : Span y) where
-  after-row : comesAfter (x .bill .contract) (x .bill .last) (y .bill) ≡ true → before x y
+  pub after-row : comesAfter (x .bill .contract) (x .bill .last) (y .bill) ≡ true → before x y
   unfolding before
-  after-row e = after-cases (x .bill .contract) (x .bill .last) y e (λ l. omega (arith, p .short)) (λ e l. omega arith)
+  after-row e = contract-or-day (x .bill .contract) (y .bill .contract) _ e (λ l. omega (arith, p .short)) (λ k l. let n : x .bill .last < y .bill .first = lt-yes _ _ l in omega arith)
 
-  row-after : before x y → comesAfter (x .bill .contract) (x .bill .last) (y .bill) ≡ true
-  unfolding before
-  row-after h = either (ltb (x .bill .contract) (y .bill .contract))
-      (λ l. after-later (x .bill .contract) (x .bill .last) y (lt-yes _ _ l))
-      (λ l.
-      let k : y .bill .contract ≤ x .bill .contract = lt-no _ _ l in
-      let same : x .bill .contract ≡ y .bill .contract = omega (arith, q .days, q .short) in
-      after-own (x .bill .contract) (x .bill .last) y same (omega arith))
+  pub row-after : before x y → comesAfter (x .bill .contract) (x .bill .last) (y .bill) ≡ true
+  row-after h = carried (x .bill .contract) (x .bill .contract) (y .bill .contract) true _ (contracts-ascend x y q h) (λ e t. yes-lt _ _ (begins-later x y h e)) (by-day (x .bill .contract) (x .bill .contract) true refl refl)
 
   after-on : (c day : ℕ) → comesAfter c day (x .bill) ≡ true → before x y → comesAfter c day (y .bill) ≡ true
-  unfolding before
-  after-on c day e h = after-cases c day x e
-      (λ l. after-later c day y (omega (arith, q .days, q .short)))
-      (λ own l. either (ltb (x .bill .contract) (y .bill .contract))
-      (λ m. let n : x .bill .contract < y .bill .contract = lt-yes _ _ m in after-later c day y (omega arith))
-      (λ m.
-      let k : y .bill .contract ≤ x .bill .contract = lt-no _ _ m in
-      let same : x .bill .contract ≡ y .bill .contract = omega (arith, q .days, q .short) in
-      after-own c day y (own ∙ same) (omega (arith, p .days))))
+  after-on c day e h = carried c (x .bill .contract) (y .bill .contract) (ltb day (x .bill .first)) (ltb day (y .bill .first)) (contracts-ascend x y q h)
+      (λ k l. yes-lt day (y .bill .first) (omega (arith, lt-yes day (x .bill .first) l, begins-later x y h k, p .days))) e
 
 module _ {R : Rules} {L : Layout} (laws : Lawful R L) where
   -- rows that pass are in the order of what is held of them
-  pub rows-following : (cs : Contracts) → Following (rowOk R cs) comesBefore (0, 0) holds follows
+  rows-following : (cs : Contracts) → Following (rowOk R cs) comesBefore (0, 0) holds follows
   rows-following cs = record {
     first = λ x e.
         let begins : 0 < x .bill .first = row-begins (laws .rules) (row-facts R cs x e) in
-        either (ltb 0 (x .bill .contract)) (λ l. after-later 0 0 x (lt-yes _ _ l)) (λ l. let n : x .bill .contract ≤ 0 = lt-no _ _ l in after-own 0 0 x (omega arith) begins);
+        carried 0 0 (x .bill .contract) true (ltb 0 (x .bill .first)) (omega arith) (λ e y. yes-lt 0 (x .bill .first) begins) (by-day 0 0 true refl refl);
     next = λ x y e f.
         let p = span x e in
         let q = span y f in
@@ -141,7 +115,7 @@ module _ {R : Rules} {L : Layout} (laws : Lawful R L) where
     Says Bad = (eqb (getD v 0 0) 0 ≡ false) × (allZero (drop (suc (length (L .row .widths))) v) ≡ false)
     Says (Held x) = HeldSlot x
 
-    pub read-says : {r : RowSlot} → r ≡ slotRead R L v → Says r
+    read-says : {r : RowSlot} → r ≡ slotRead R L v → Says r
     unfolding slotRead
     read-says {r} e = subst Says (sym e) (go (eqb (getD v 0 0) 0) refl (allZero (drop (suc (length (L .row .widths))) v)) refl)
       where

@@ -9,12 +9,6 @@ use Rattle.fields.specs.Field.{value, bitsOf, bytesOfBits}
 use Rattle.fields.specs.Fields.{fieldBits}
 use Rattle.records.specs.Pack.{size, pack}
 use Rattle.basics.specs.Lists.{All}
-use Rattle.basics.proofs.Lists.{all-map}
-use Rattle.model.specs.declared.Row.{Row}
-use Rattle.model.specs.Contracts.{Contracts}
-use Rattle.model.specs.WellFormed.{RowOk}
-use Rattle.model.proofs.RowOrder.{Span}
-use Rattle.model.proofs.RowBounds.{row-span}
 use Rattle.model.specs.Ledger.{fresh}
 use Rattle.model.specs.StoredEarlier.{RatedByDay}
 use Rattle.model.proofs.StoredEarlier.{by-day, stored-earlier}
@@ -26,8 +20,6 @@ use Rattle.layout.specs.Layout.{headerBytes, wellFormed, format}
 use Rattle.layout.specs.Offsets.{ledgerLength}
 use Rattle.layout.specs.Present.{rules, layout, Formed, facts, bytes, machine}
 use Rattle.layout.specs.Theorems.{PackedSize, FreshLedger, RoundTrips, ClaimsKept, AmountsKept, DemandThree, StoredLedgersBalance, PackedHistoriesHoldTheirFacts, PackedAnswersFromTheSheet, PackedSameAsPostings, NumberTwoMeetsNoCall, NumberTwoFirst}
-use Rattle.layout.specs.RowsInOrder.{RowsInOrder}
-use Rattle.layout.proofs.Order.{pairs-apart, apart-pairs, apart-in-order, in-order-apart, neighbours-pairs}
 use Rattle.layout.proofs.RoundTrips.{unpacked-packed, well-formed-exactly}
 use Rattle.layout.proofs.Present.{present, format-laws, formed-length, facts-kept, repacked}
 use Rattle.layout.proofs.Changes.{fresh-parts}
@@ -99,16 +91,3 @@ amounts-kept = record {
   where
     by-day-rated : (b : List ℕ) → Formed b → All (RatedByDay (facts b .contracts)) (facts b .rows)
     by-day-rated b f = by-day (facts b) (facts-kept b f)
-
-pub rows-in-order : RowsInOrder
-rows-in-order = record {
-  in-order = λ b f. apart-in-order (facts b .rows) (spans (facts b .contracts) (facts b .rows) (facts-kept b f .rows)) (facts-kept b f .apart);
-  exactly = λ cs xs o. (
-    λ e. apart-in-order xs (spans cs xs o) (pairs-apart xs (spans cs xs o) e),
-    λ p. apart-pairs xs (spans cs xs o) (in-order-apart xs (spans cs xs o) p),
-  );
-  by-neighbours = λ cs xs o. neighbours-pairs xs (spans cs xs o);
-}
-  where
-    spans : (cs : Contracts) (xs : List Row) → All (RowOk rules cs) xs → All Span xs
-    spans cs xs o = all-map (RowOk rules cs) Span (λ x k. row-span (present .rules) k) xs o

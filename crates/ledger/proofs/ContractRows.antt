@@ -1,19 +1,29 @@
 -- The rows of a contract, from the first that reaches it to the first that reaches the next: each is of the contract, and sums over all rows
 -- in which the others weigh nothing are sums over these. Assumes nothing.
-use mathlib.Core.Path.{_≡_, sym, ap, _∙_}
+use mathlib.Core.Path.{_≡_, ap, _∙_}
 use mathlib.Core.Logic.{_≢_}
+use mathlib.Core.Bool.{cond}
 use mathlib.Core.List.{List}
 use Prim.Native.Nat.{ℕ, _+_, _≤_, _<_}
 use native.Mathlib.Omega.{arith}
 use lib.ListN.{drop}
 use Rattle.basics.specs.Lists.{total}
+use Rattle.basics.proofs.Tests.{no-eq}
 use Rattle.model.specs.declared.Row.{Row}
+use Rattle.model.specs.Ledger.{ofContract}
 use Rattle.model.specs.Places.{placeOf, reaches}
 use Rattle.model.proofs.Places.{place-le}
 use Rattle.model.proofs.SortedRows.{own-between, others-before, others-after}
 use Rattle.layout.specs.Present.{facts, rowAt, Searched}
 use Rattle.ledger.proofs.EachRow.{row-read, SummedTo}
 use Rattle.ledger.proofs.Search.{spans, apart}
+
+-- w of a row of contract c, and 0 of any other row
+abbrev pub forContract : ℕ → (Row → ℕ) → Row → ℕ
+forContract c w x = cond (ofContract c x) (w x) 0
+
+pub others-weightless : (c : ℕ) (w : Row → ℕ) (x : Row) → x .bill .contract ≢ c → forContract c w x ≡ 0
+others-weightless c w x n = rw (no-eq (x .bill .contract) c n)
 
 module _ (b : List ℕ) (rows : ℕ) (s : Searched b rows) (c : ℕ) where
   module _ (end : ℕ) (ends : end ≡ placeOf (reaches (c + 1) 0) (facts b .rows)) (i : ℕ) where

@@ -1,14 +1,14 @@
--- A row's slot as it is read, and a row under what stands under its contract's number. Assumes nothing.
+-- A row's slot and a contract's as they are read, and a row under what its contract's slot holds. Assumes nothing.
 use mathlib.Core.Path.{_≡_, refl, sym, ap, _∙_}
 use mathlib.Core.Bool.{Bool, true, false, not, _&&_}
 use mathlib.Core.List.{List, [], _∷_}
 use mathlib.Core.Option.{Option, none, some}
 use Prim.Native.Nat.{ℕ, suc, _+_, _-_, _<_}
-use lib.Dec.{eqb, ltb}
+use lib.Dec.{eqb}
 use lib.ListN.{length, take, drop, getD}
 use Rattle.limits.specs.Limits.{contractCount}
 use Rattle.basics.specs.Tests.{every}
-use Rattle.basics.proofs.Tests.{yes-lt, not-yes, not-no}
+use Rattle.basics.proofs.Tests.{and-true, and-false, yes-lt, not-yes, not-no}
 use Rattle.records.specs.Slots.{allZero}
 use Rattle.records.specs.OneSlot.{slotNumbers, isTaken, recordIn, slotAt}
 use Rattle.records.proofs.OneSlot.{part-lent}
@@ -29,12 +29,12 @@ use Rattle.layout.specs.Present.{rules, layout, contracts, rowSlotAt}
 use Rattle.layout.proofs.Lawful.{offsets}
 use Rattle.layout.proofs.RowChecks.{read-free, read-bad, read-held, row-of-slot}
 use Rattle.layout.proofs.Present.{present}
-use Rattle.ledger.specs.declared.contracts.Terms.{Terms}
-use Rattle.ledger.specs.declared.contracts.Terms.the-variants.{Closed, Open}
-use Rattle.ledger.specs.Rows.{termsOf, rowUnder}
+use Rattle.ledger.specs.declared.contracts.ContractSlot.{ContractSlot}
+use Rattle.ledger.specs.declared.contracts.ContractSlot.the-variants.{Closed, Open}
+use Rattle.ledger.specs.Rows.{contractSlotOf, rowUnder}
 use Rattle.ledger.proofs.RowNumbers.{row-contract-low}
 
--- ---- `read_row`: the slot's bytes, whether it is held, whether a bit of its zeros is set, and the row that it holds
+-- ---- `row_slot`: the slot's bytes, whether it is held, whether a bit of its zeros is set, and the row that it holds
 
 module _ (b : List ℕ) (i : ℕ) where
   abbrev v : List ℕ
@@ -77,74 +77,61 @@ module _ (b : List ℕ) (i : ℕ) where
   pub contract-low : {x : Row} → Held x ≡ slotRead rules layout v → x .bill .contract < contractCount
   contract-low e = rw (row-of-slot present v e) (row-contract-low b i)
 
--- ---- what stands under a contract's number
+-- ---- what a contract's slot holds
 
 module _ (b : List ℕ) (c : ℕ) (o : Bool) (e : o ≡ isOpen (contracts b) c) where
-  pub terms-closed : o ≡ false → Closed ≡ termsOf (contracts b c)
+  pub slot-closed : o ≡ false → Closed ≡ contractSlotOf (contracts b c)
   unfolding isOpen
-  terms-closed f = go (contracts b c) (sym e ∙ f)
+  slot-closed f = go (contracts b c) (sym e ∙ f)
     where
-      go : (k : Option Contract) → isThere k ≡ false → Closed ≡ termsOf k
+      go : (k : Option Contract) → isThere k ≡ false → Closed ≡ contractSlotOf k
       go none z = refl
       go (some k) z = cc
 
-  pub terms-open : o ≡ true → (k : Contract) → k ≡ contractAt (contracts b) c → Open k ≡ termsOf (contracts b c)
+  pub slot-open : o ≡ true → (k : Contract) → k ≡ contractAt (contracts b) c → Open k ≡ contractSlotOf (contracts b c)
   unfolding isOpen contractAt
-  terms-open f k read = go (contracts b c) (sym e ∙ f) read
+  slot-open f k read = go (contracts b c) (sym e ∙ f) read
     where
-      go : (o : Option Contract) → isThere o ≡ true → k ≡ contractIn o → Open k ≡ termsOf o
+      go : (o : Option Contract) → isThere o ≡ true → k ≡ contractIn o → Open k ≡ contractSlotOf o
       go none z r = cc
       go (some j) z r = ap Open r
 
-pub same-terms : (b : List ℕ) {c d : ℕ} {terms : Terms} → d ≡ c → terms ≡ termsOf (contracts b c) → terms ≡ termsOf (contracts b d)
-same-terms b e f = f ∙ ap (λ (n : ℕ). termsOf (contracts b n)) (sym e)
+pub same-slot : (b : List ℕ) {c d : ℕ} {slot : ContractSlot} → d ≡ c → slot ≡ contractSlotOf (contracts b c) → slot ≡ contractSlotOf (contracts b d)
+same-slot b e f = f ∙ ap (λ (n : ℕ). contractSlotOf (contracts b n)) (sym e)
 
 -- ---- `row_ok`: the contract is open, the ranges are kept, the amount is the part of due
 
-module _ (terms : Terms) (x : Row) where
-  module _ (k : Contract) (e : terms ≡ Open k) (t : Bool) (ranges : t ≡ billOk k (x .bill)) where
-    pub outside : not t ≡ true → false ≡ rowUnder terms x
+module _ (slot : ContractSlot) (x : Row) where
+  module _ (k : Contract) (e : slot ≡ Open k) (t : Bool) (ranges : t ≡ billOk k (x .bill)) where
+    pub outside : not t ≡ true → false ≡ rowUnder slot x
     outside n = rw (e, sym ranges ∙ not-yes t n)
 
-    pub part-tested : not t ≡ false → (r : Bool) → r ≡ eqb (x .amount) (amount k (x .bill)) → r ≡ rowUnder terms x
+    pub part-tested : not t ≡ false → (r : Bool) → r ≡ eqb (x .amount) (amount k (x .bill)) → r ≡ rowUnder slot x
     part-tested y r f = rw (e, sym ranges ∙ not-no t y) f
 
 -- ---- `follows`: the row comes after the one before it, and is as it must be
 
-module _ (before last : ℕ) (terms : Terms) (x : Row) (a : Bool) (e : a ≡ comesAfter before last (x .bill)) where
-  pub not-after : not a ≡ true → false ≡ rowUnder terms x && comesAfter before last (x .bill)
-  not-after n = sym (and-false (rowUnder terms x) _ (sym e ∙ not-yes a n))
-    where
-      and-false : (p q : Bool) → q ≡ false → p && q ≡ false
-      and-false true q f = f
-      and-false false q f = refl
+module _ (before last : ℕ) (slot : ContractSlot) (x : Row) (a : Bool) (e : a ≡ comesAfter before last (x .bill)) where
+  pub not-after : not a ≡ true → false ≡ rowUnder slot x && comesAfter before last (x .bill)
+  not-after n = sym (and-false (rowUnder slot x) _ (sym e ∙ not-yes a n))
 
-  pub is-after : not a ≡ false → (r : Bool) → r ≡ rowUnder terms x → r ≡ rowUnder terms x && comesAfter before last (x .bill)
-  is-after y r f = f ∙ sym (and-true (rowUnder terms x) _ (sym e ∙ not-no a y))
-    where
-      and-true : (p q : Bool) → q ≡ true → p && q ≡ p
-      and-true true q f = f
-      and-true false q f = refl
+  pub is-after : not a ≡ false → (r : Bool) → r ≡ rowUnder slot x → r ≡ rowUnder slot x && comesAfter before last (x .bill)
+  is-after y r f = f ∙ sym (and-true (rowUnder slot x) _ (sym e ∙ not-no a y))
 
 pub rateable : (x : Row) (k : Contract) (t : Bool) → t ≡ billOk k (x .bill) → not t ≡ false → Rateable (x .bill)
 rateable x k t e f = bill-ranges k (x .bill) (sym e ∙ not-no t f) .rateable
 
--- the row's test, by what stands under its contract's number
-under-contract : (b : List ℕ) (x : Row) → x .bill .contract < contractCount → rowUnder (termsOf (contracts b (x .bill .contract))) x ≡ rowOk rules (contracts b) x
+-- the row's test, by what its contract's slot holds
+under-contract : (b : List ℕ) (x : Row) → x .bill .contract < contractCount → rowUnder (contractSlotOf (contracts b (x .bill .contract))) x ≡ rowOk rules (contracts b) x
 unfolding rowOk isOpen contractAt partOfDue
 under-contract b x low = rw (yes-lt (x .bill .contract) contractCount low) (go (contracts b (x .bill .contract)))
   where
-    last : (p q : Bool) → p && q ≡ p && (q && true)
-    last true true = refl
-    last true false = refl
-    last false q = refl
-
-    go : (o : Option Contract) → rowUnder (termsOf o) x ≡ every (isThere o ∷ billOk (contractIn o) (x .bill) ∷ eqb (x .amount) (amount (contractIn o) (x .bill)) ∷ [])
+    go : (o : Option Contract) → rowUnder (contractSlotOf o) x ≡ every (isThere o ∷ billOk (contractIn o) (x .bill) ∷ eqb (x .amount) (amount (contractIn o) (x .bill)) ∷ [])
     go none = refl
-    go (some k) = last (billOk k (x .bill)) (eqb (x .amount) (amount k (x .bill)))
+    go (some k) = ap (λ (t : Bool). billOk k (x .bill) && t) (sym (and-true (eqb (x .amount) (amount k (x .bill))) true refl))
 
 -- what `follows` tells of a row whose contract was read
-pub row-tested : (b : List ℕ) (before last : ℕ) (terms : Terms) (x : Row) → x .bill .contract < contractCount → terms ≡ termsOf (contracts b (x .bill .contract))
-    → (r : Bool) → r ≡ rowUnder terms x && comesAfter before last (x .bill) → rowOk rules (contracts b) x && comesAfter before last (x .bill) ≡ r
-row-tested b before last terms x low read r e =
-    ap (λ (t : Bool). t && comesAfter before last (x .bill)) (sym (under-contract b x low) ∙ ap (λ (u : Terms). rowUnder u x) (sym read)) ∙ sym e
+pub row-tested : (b : List ℕ) (before last : ℕ) (slot : ContractSlot) (x : Row) → x .bill .contract < contractCount → slot ≡ contractSlotOf (contracts b (x .bill .contract))
+    → (r : Bool) → r ≡ rowUnder slot x && comesAfter before last (x .bill) → rowOk rules (contracts b) x && comesAfter before last (x .bill) ≡ r
+row-tested b before last slot x low read r e =
+    ap (λ (t : Bool). t && comesAfter before last (x .bill)) (sym (under-contract b x low) ∙ ap (λ (u : ContractSlot). rowUnder u x) (sym read)) ∙ sym e

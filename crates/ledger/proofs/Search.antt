@@ -10,17 +10,16 @@ use lib.ListN.{length, drop, getD}
 use lib.Seq.{drop-cons}
 use Rattle.basics.specs.Lists.{All}
 use Rattle.basics.proofs.Tests.{either, lt-yes, lt-no}
-use Rattle.basics.proofs.Lists.{all-map}
 use Rattle.amounts.specs.declared.Bill.{Bill}
 use Rattle.model.specs.declared.Row.{Row}
 use Rattle.model.specs.Calls.{named}
 use Rattle.model.specs.Places.{placeOf, firstPasses, reaches}
-use Rattle.model.specs.WellFormed.{RowOk, Apart}
+use Rattle.model.specs.WellFormed.{Apart}
 use Rattle.model.proofs.Places.{place-le, passes-at-place}
 use Rattle.model.proofs.RowOrder.{Span}
-use Rattle.model.proofs.RowBounds.{row-span}
+use Rattle.model.proofs.RowBounds.{row-spans}
 use Rattle.model.proofs.SortedRows.{passed-row, failed-row, reaches-rising, named-place}
-use Rattle.layout.specs.Present.{rules, facts, rowAt, Searched}
+use Rattle.layout.specs.Present.{facts, rowAt, Searched}
 use Rattle.layout.proofs.Present.{present, facts-kept}
 use Rattle.ledger.proofs.EachRow.{row-there, row-read}
 
@@ -33,7 +32,7 @@ none-beyond q (x ∷ xs) (suc i) h = none-beyond q xs i (le-of-suc-le-suc h)
 -- the rows are in order, apart, and of spans
 module _ (b : List ℕ) (rows : ℕ) (s : Searched b rows) where
   pub spans : All Span (facts b .rows)
-  spans = all-map (RowOk rules (facts b .contracts)) Span (λ x o. row-span (present .rules) o) (facts b .rows) (facts-kept b (s .formed) .rows)
+  spans = row-spans (present .rules) (facts b .contracts) (facts b .rows) (facts-kept b (s .formed) .rows)
 
   pub apart : Apart (facts b .rows)
   apart = facts-kept b (s .formed) .apart

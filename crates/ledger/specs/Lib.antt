@@ -1,3 +1,3 @@
--- Tests of rows, and what a call owes.
+-- What a contract's slot holds, a row under it, and what a call owes.
 pub mod Rows
 pub mod Answered

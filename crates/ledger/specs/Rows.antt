@@ -1,4 +1,4 @@
--- What stands under a contract's number, and a row under it. Assumes nothing.
+-- What a contract's slot holds, and a row under it. Assumes nothing.
 use mathlib.Core.Bool.{Bool, false, _&&_}
 use mathlib.Core.Option.{Option, none, some}
 use lib.Dec.{eqb}
@@ -6,14 +6,14 @@ use Rattle.rates.specs.declared.Contract.{Contract}
 use Rattle.amounts.specs.Amounts.{amount}
 use Rattle.model.specs.declared.Row.{Row}
 use Rattle.model.specs.PresentRules.{billOk}
-use Rattle.ledger.specs.declared.contracts.Terms.{Terms}
-use Rattle.ledger.specs.declared.contracts.Terms.the-variants.{Closed, Open}
+use Rattle.ledger.specs.declared.contracts.ContractSlot.{ContractSlot}
+use Rattle.ledger.specs.declared.contracts.ContractSlot.the-variants.{Closed, Open}
 
-abbrev pub termsOf : Option Contract → Terms
-termsOf none = Closed
-termsOf (some k) = Open k
+abbrev pub contractSlotOf : Option Contract → ContractSlot
+contractSlotOf none = Closed
+contractSlotOf (some k) = Open k
 
 -- a row keeps the ranges under its contract, which is open, and its amount is that under it
-abbrev pub rowUnder : Terms → Row → Bool
+abbrev pub rowUnder : ContractSlot → Row → Bool
 rowUnder Closed x = false
 rowUnder (Open k) x = billOk k (x .bill) && eqb (x .amount) (amount k (x .bill))

@@ -1,7 +1,7 @@
 // The well-formed check: one pass over the contracts and one over the rows, each row unpacked once, with the contract and the last day of
 // the row before it in hand.
-use crate::contracts::Terms;
-use crate::contracts::terms_at;
+use crate::contracts::ContractSlot;
+use crate::contracts::contract_slot;
 use crate::rows::comes_after;
 use layout::CONTRACT_LENGTH;
 use layout::Checked;
@@ -60,7 +60,7 @@ fn contracts_ok(b: &[u8]) -> bool
 }
 
 // What is read of row slot i.
-fn read_row(b: &[u8], i: usize) -> RowSlot
+fn row_slot(b: &[u8], i: usize) -> RowSlot
     requires { ⌜ (length (now b) ≡ ledgerLength) × (i < rowCount) ⌝ }
     ensures { λ r. ⌜ r ≡ slotRead rules layout (rowSlotAt (now (b .entry)) i) ⌝ }
 {
@@ -76,10 +76,10 @@ fn read_row(b: &[u8], i: usize) -> RowSlot
 }
 
 // A row keeps the ranges under its contract, which is open, and its amount is its part of due.
-fn row_ok(terms: Terms, row: Row) -> bool
-    ensures { λ r. ⌜ r ≡ rowUnder terms row ⌝ }
+fn row_ok(slot: ContractSlot, row: Row) -> bool
+    ensures { λ r. ⌜ r ≡ rowUnder slot row ⌝ }
 {
-    let Terms::Open(contract) = terms else {
+    let ContractSlot::Open(contract) = slot else {
         return false;
     };
     let bill = row.bill;
@@ -89,15 +89,15 @@ fn row_ok(terms: Terms, row: Row) -> bool
     amounts::is_amount(contract, bill, row.amount)
 }
 
-// A row is as it must be under its contract, and comes after one that ends on day `last` of contract `before`.
-fn follows(before: u32, last: u32, terms: Terms, row: Row) -> bool
-    ensures { λ r. ⌜ r ≡ rowUnder terms row && comesAfter before last (row .bill) ⌝ }
+// A row is as it must be under what its contract's slot holds, and comes after day `last` of the contract with that number.
+fn follows(contract: u32, last: u32, slot: ContractSlot, row: Row) -> bool
+    ensures { λ r. ⌜ r ≡ rowUnder slot row && comesAfter contract last (row .bill) ⌝ }
 {
     let bill = row.bill;
-    if !comes_after(before, last, bill) {
+    if !comes_after(contract, last, bill) {
         return false;
     }
-    row_ok(terms, row)
+    row_ok(slot, row)
 }
 
 // The check of the slots from row i on, where slot i is free: only zeros may follow the i rows before it.
@@ -115,8 +115,8 @@ fn check_rest(b: &[u8], i: usize, due: u64) -> Checked
     Checked::Malformed
 }
 
-// The check of all rows: each is read once, with the contract and the last day of the row before it in hand, and what stands under that
-// contract's number. No row begins on day 0, so the first comes after day 0 of contract 0.
+// The check of all rows: each is read once, with the contract and the last day of the row before it in hand, and what that contract's slot
+// holds. No row begins on day 0, so the first comes after day 0 of contract 0.
 fn check_rows(b: &[u8]) -> Checked
     requires { ⌜ length (now b) ≡ ledgerLength ⌝ }
     ensures { λ r. ⌜ r ≡ rowsCheckedOf rules layout (now (b .entry)) ⌝ }
@@ -124,10 +124,10 @@ fn check_rows(b: &[u8]) -> Checked
     let mut i: usize = 0;
     let mut contract: u32 = 0;
     let mut last: u32 = 0;
-    let mut terms = terms_at(b, 0);
+    let mut slot = contract_slot(b, 0);
     let mut due: u64 = 0;
     while i < ROW_COUNT {
-        let read = read_row(b, i);
+        let read = row_slot(b, i);
         match read {
             RowSlot::Free => {
                 return check_rest(b, i, due);
@@ -138,9 +138,9 @@ fn check_rows(b: &[u8]) -> Checked
             RowSlot::Held(row) => {
                 let bill = row.bill;
                 if bill.contract != contract {
-                    terms = terms_at(b, bill.contract as usize);
+                    slot = contract_slot(b, bill.contract as usize);
                 }
-                if !follows(contract, last, terms, row) {
+                if !follows(contract, last, slot, row) {
                     return Checked::Malformed;
                 }
                 contract = bill.contract;

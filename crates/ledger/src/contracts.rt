@@ -13,11 +13,11 @@ ghost use Rattle.model.specs.PresentRules.{openTests};
 ghost use Rattle.model.specs.Contracts.{contractAt, isOpen};
 ghost use Rattle.layout.specs.Offsets.{ledgerLength};
 ghost use Rattle.layout.specs.Present.{contracts};
-ghost use Rattle.ledger.specs.Rows.{termsOf};
+ghost use Rattle.ledger.specs.Rows.{contractSlotOf};
 ghost use Rattle.ledger.specs.Answered.{viewOf};
 
-// What stands under a contract's number: nothing, as it isn't open, or the contract.
-pub enum Terms {
+// What a contract's slot holds: nothing, as the number isn't open, or the contract.
+pub enum ContractSlot {
     Closed,
     Open(Contract),
 }
@@ -40,15 +40,15 @@ pub fn contract_at(b: &[u8], c: usize) -> Contract
     codec::contracts::unpack_contract(&b[at..at + CONTRACT_LENGTH])
 }
 
-// The contract with that number, or that it isn't open.
-pub fn terms_at(b: &[u8], c: usize) -> Terms
+// What the slot of the contract with that number holds.
+pub fn contract_slot(b: &[u8], c: usize) -> ContractSlot
     requires { ⌜ (length (now b) ≡ ledgerLength) × (c < contractCount) ⌝ }
-    ensures { λ r. ⌜ r ≡ termsOf (contracts (now (b .entry)) c) ⌝ }
+    ensures { λ r. ⌜ r ≡ contractSlotOf (contracts (now (b .entry)) c) ⌝ }
 {
     if is_open(b, c) {
-        return Terms::Open(contract_at(b, c));
+        return ContractSlot::Open(contract_at(b, c));
     }
-    Terms::Closed
+    ContractSlot::Closed
 }
 
 // Refusals 4 and 5 of a call that names an open contract; 0 where neither fits.

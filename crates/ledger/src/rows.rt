@@ -111,7 +111,7 @@ pub fn place_named(b: &[u8], rows: usize, contract: u32, first: u32) -> usize
 }
 
 // Whether row i is held and is one of the contract that shares a day with the span.
-pub fn row_shares(b: &[u8], rows: usize, i: usize, contract: u32, first: u32, last: u32) -> bool
+pub fn row_shares_day(b: &[u8], rows: usize, i: usize, contract: u32, first: u32, last: u32) -> bool
     requires { ⌜ Searched (now b) rows ⌝ }
     ensures { λ r. ⌜ r ≡ firstPasses (sharing contract first last) (drop i (facts (now (b .entry)) .rows)) ⌝ }
 {

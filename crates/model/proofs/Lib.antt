@@ -8,6 +8,7 @@ pub mod PresentRules
 pub mod Places
 pub mod RowSums
 pub mod RowOrder
+pub mod ContractThenDay
 pub mod SortedRows
 pub mod RowBounds
 pub mod Runs

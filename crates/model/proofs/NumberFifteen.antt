@@ -1,6 +1,6 @@
 -- Number 15 turns down a bill or rebill whose span touches two months, where no earlier test fits, and no other call. Assumes nothing.
 use mathlib.Core.Path.{_≡_, refl, sym, _∙_}
-use mathlib.Core.Bool.{true, false, false≢true, or-false}
+use mathlib.Core.Bool.{false, false≢true, or-false}
 use mathlib.Core.List.{List, [], _∷_, _++_}
 use mathlib.Core.Logic.{⊎-elim}
 use Prim.Native.Nat.{ℕ}

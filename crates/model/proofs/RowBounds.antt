@@ -1,11 +1,12 @@
 -- What each row of a well-formed ledger keeps, and the most that a sum over its rows can be. Assumes nothing.
 use mathlib.Core.Bool.{Bool, true, false, cond}
+use mathlib.Core.List.{List}
 use Prim.Native.Nat.{ℕ, _*_, _<_, _≤_, zero-le}
 use native.Mathlib.Nat.{mul-le-mul-right}
 use native.Mathlib.Omega.{arith}
 use lib.ListN.{length}
 use Rattle.limits.specs.Limits.{rowCount}
-use Rattle.basics.specs.Lists.{total, count}
+use Rattle.basics.specs.Lists.{total, count, All}
 use Rattle.basics.proofs.Lists.{all-map, total-most}
 use Rattle.amounts.proofs.AmountBounds.{highestAmount}
 use Rattle.model.specs.declared.Row.{Row}
@@ -27,8 +28,11 @@ module _ {R : Rules} (ok : RulesLaws R) {cs : Contracts} {x : Row} (o : RowOk R 
   unfolding partOfDue
   amount-low = omega (arith, o .part, ok .low _ (x .bill) (o .ranges))
 
+pub row-spans : {R : Rules} → RulesLaws R → (cs : Contracts) (xs : List Row) → All (RowOk R cs) xs → All Span xs
+row-spans {R} ok cs xs a = all-map (RowOk R cs) Span (λ x o. row-span ok o) xs a
+
 module _ {R : Rules} {l : Ledger} (f : WellFormed R l) where
-  pub sum-most : (w : Row → ℕ) (n : ℕ) → ((x : Row) → RowOk R (l .contracts) x → w x ≤ n) → total w (l .rows) ≤ rowCount * n
+  sum-most : (w : Row → ℕ) (n : ℕ) → ((x : Row) → RowOk R (l .contracts) x → w x ≤ n) → total w (l .rows) ≤ rowCount * n
   sum-most w n low =
       let h : length (l .rows) * n ≤ rowCount * n = mul-le-mul-right n (f .count) in
       omega (arith, total-most w n (l .rows) (all-map (RowOk R (l .contracts)) _ low (l .rows) (f .rows)))

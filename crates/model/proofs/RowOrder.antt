@@ -24,6 +24,15 @@ pub before-trans : (x y z : Row) → Span y → before x y → before y z → be
 unfolding before
 before-trans x y z q h k = omega arith
 
+-- of two rows the one before the other: their contracts ascend, and where the contract is the same the second begins after the first ends
+pub contracts-ascend : (x y : Row) → Span y → before x y → x .bill .contract ≤ y .bill .contract
+unfolding before
+contracts-ascend x y q h = omega (arith, q .days, q .short)
+
+pub begins-later : (x y : Row) → before x y → x .bill .contract ≡ y .bill .contract → x .bill .last < y .bill .first
+unfolding before
+begins-later x y h e = omega arith
+
 -- the rows that share no day with a new one, by which of the two sorts after the other
 module _ (r x : Row) (p : Span r) (q : Span x) (e : sharing (r .bill .contract) (r .bill .first) (r .bill .last) (x .bill) ≡ false) where
   pub left-of : sortsAfter (x .bill) (r .bill) ≡ false → before x r

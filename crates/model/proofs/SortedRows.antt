@@ -7,12 +7,12 @@ use mathlib.Core.List.{List, [], _∷_, map}
 use Prim.Native.Nat.{ℕ, zero, suc, _+_, _≤_, _<_}
 use native.Mathlib.Nat.{not-suc-le-zero, le-of-suc-le-suc, zero-add}
 use native.Mathlib.Omega.{arith}
-use lib.Dec.{ltb, leb, eqb, leb·suc-suc}
+use lib.Dec.{ltb, leb, eqb}
 use lib.ListN.{length, drop, getD}
 use lib.Seq.{drop-cons}
 use borrow.Author.Tests.{le-ltb}
 use Rattle.basics.specs.Lists.{All, total, count}
-use Rattle.basics.proofs.Tests.{either, and-left, and-right, and-no, and-no-left, or-yes, or-no-left, or-no-right, lt-yes, yes-lt, lt-no, le-yes, yes-le, no-le, le-no, eq-yes, yes-eq, eq-no, no-eq}
+use Rattle.basics.proofs.Tests.{either, and-left, and-right, and-true, and-false, and-no, and-no-left, lt-yes, yes-lt, lt-no, le-yes, yes-le, no-le, le-no, eq-yes, yes-eq, no-eq, no-not}
 use Rattle.basics.proofs.Lists.{all-map, all-both, total-all, total-zero}
 use Rattle.basics.proofs.FirstMapped.{firstMapped, first-rest}
 use Rattle.amounts.specs.declared.Bill.{Bill}
@@ -21,13 +21,14 @@ use Rattle.model.specs.Calls.{named, sharing}
 use Rattle.model.specs.Places.{placeOf, firstPasses, reaches}
 use Rattle.model.specs.WellFormed.{before, Apart}
 use Rattle.model.proofs.Places.{place-le, count-at}
-use Rattle.model.proofs.RowOrder.{Span}
+use Rattle.model.proofs.RowOrder.{Span, contracts-ascend, begins-later}
+use Rattle.model.proofs.ContractThenDay.{by-day, contract-or-day, carried}
 
 -- ---- the first row that passes a test
 
 module _ (p : Bill → Bool) where
   -- the rows before it don't pass
-  pub below-place : (xs : List Row) (d : Row) (i : ℕ) → i < placeOf p xs → p (getD xs i d .bill) ≡ false
+  below-place : (xs : List Row) (d : Row) (i : ℕ) → i < placeOf p xs → p (getD xs i d .bill) ≡ false
   below-place [] d i h = absurd (not-suc-le-zero h)
   below-place (x ∷ xs) d zero h = either (p (x .bill)) (λ e. let n : 0 < 0 = rw e at h in absurd (not-suc-le-zero n)) (λ e. e)
   below-place (x ∷ xs) d (suc i) h = either (p (x .bill))
@@ -45,7 +46,7 @@ module _ (p : Bill → Bool) where
   all-drop (x ∷ xs) (suc n) a = all-drop xs n (a .1)
 
   -- the rows from it on pass
-  pub from-place : (xs : List Row) → Rising xs → (i : ℕ) → placeOf p xs ≤ i → All (λ y. p (y .bill) ≡ true) (drop i xs)
+  from-place : (xs : List Row) → Rising xs → (i : ℕ) → placeOf p xs ≤ i → All (λ y. p (y .bill) ≡ true) (drop i xs)
   from-place [] r zero h = tt
   from-place [] r (suc i) h = tt
   from-place (x ∷ xs) r zero h = either (p (x .bill)) (λ e. (e, r .0 e)) (λ e. let n : suc (placeOf p xs) ≤ 0 = rw e at h in absurd (not-suc-le-zero n))
@@ -70,35 +71,20 @@ module _ (p : Bill → Bool) where
 
 -- ---- a bill that reaches a day of a contract
 
-module _ (c day : ℕ) (b : Bill) where
-  reach-later : c < b .contract → reaches c day b ≡ true
-  unfolding reaches
-  reach-later h = rw (yes-lt c (b .contract) h)
-
-  reach-own : c ≡ b .contract → day ≤ b .last → reaches c day b ≡ true
-  unfolding reaches
-  reach-own e h = either (ltb c (b .contract)) (λ l. rw l) (λ l. rw (l, yes-eq c (b .contract) e, yes-le day (b .last) h))
-
-  reach-cases : {X : Type 0} → reaches c day b ≡ true → (c < b .contract → X) → (c ≡ b .contract → day ≤ b .last → X) → X
-  unfolding reaches
-  reach-cases r later own = either (ltb c (b .contract))
-      (λ l. later (lt-yes c (b .contract) l))
-      (λ l.
-      let g = or-yes (ltb c (b .contract)) _ r l in
-      own (eq-yes c (b .contract) (and-left (eqb c (b .contract)) _ g)) (le-yes day (b .last) (and-right (eqb c (b .contract)) _ g)))
-
--- by a row that reaches, all that come after it do
 module _ (c day : ℕ) where
+  reach-cases : (b : Bill) {X : Type 0} → reaches c day b ≡ true → (c < b .contract → X) → (c ≡ b .contract → day ≤ b .last → X) → X
+  unfolding reaches
+  reach-cases b r later same = contract-or-day c (b .contract) (leb day (b .last)) r later (λ e y. same e (le-yes day (b .last) y))
+
+  reach-own : (b : Bill) → c ≡ b .contract → day ≤ b .last → reaches c day b ≡ true
+  unfolding reaches
+  reach-own b e h = by-day c (b .contract) (leb day (b .last)) e (yes-le day (b .last) h)
+
+  -- by a row that reaches, all that come after it do
   reach-on : (x y : Row) → Span y → before x y → reaches c day (x .bill) ≡ true → reaches c day (y .bill) ≡ true
-  unfolding before
-  reach-on x y s h r = reach-cases c day (x .bill) r
-      (λ l. reach-later c day (y .bill) (omega (arith, s .days, s .short)))
-      (λ e l. either (ltb (x .bill .contract) (y .bill .contract))
-      (λ m. let n : x .bill .contract < y .bill .contract = lt-yes _ _ m in reach-later c day (y .bill) (omega arith))
-      (λ m.
-      let n : y .bill .contract ≤ x .bill .contract = lt-no _ _ m in
-      let same : x .bill .contract ≡ y .bill .contract = omega (arith, s .days, s .short) in
-      reach-own c day (y .bill) (e ∙ same) (omega (arith, s .days))))
+  unfolding reaches
+  reach-on x y s h r = carried c (x .bill .contract) (y .bill .contract) _ _ (contracts-ascend x y s h)
+      (λ e l. yes-le day (y .bill .last) (omega (arith, le-yes day (x .bill .last) l, begins-later x y h e, s .days))) r
 
   pub reaches-rising : (xs : List Row) → All Span xs → Apart xs → Rising (reaches c day) xs
   reaches-rising [] s a = tt
@@ -150,15 +136,6 @@ module _ (p q : Bill → Bool) (f : FirstReached p q) where
 
 -- ---- the row with a contract and first day, and a row that shares a day with a span
 
--- rows of the contract that come after one of them begin after it
-later-first : (c : ℕ) (x y : Row) → Span x → before x y → c ≡ x .bill .contract → y .bill .contract ≡ c → x .bill .last < y .bill .first
-unfolding before
-later-first c x y s h e f = omega arith
-
-later-contract : (c : ℕ) (x y : Row) → Span y → before x y → c < x .bill .contract → c < y .bill .contract
-unfolding before
-later-contract c x y s h l = omega (arith, s .days, s .short)
-
 module _ (c first : ℕ) where
   abbrev reaching : Bill → Bool
   reaching = reaches c first
@@ -174,8 +151,8 @@ module _ (c first : ℕ) where
         (λ e.
         let own : y .bill .contract ≡ c = eq-yes _ _ e in
         reach-cases c first (x .bill) r
-        (λ l. let z : ⊥ = omega (arith, later-contract c x y t h l) in absurd z)
-        (λ o l. rw (e, no-eq (y .bill .first) first (λ f. let z : ⊥ = omega (arith, later-first c x y s h o own) in z))))
+        (λ l. let z : ⊥ = omega (arith, contracts-ascend x y t h) in absurd z)
+        (λ o l. rw (e, no-eq (y .bill .first) first (λ f. let z : ⊥ = omega (arith, begins-later x y h (sym o ∙ sym own)) in z))))
         (λ e. rw e);
   }
 
@@ -191,10 +168,10 @@ module _ (c first : ℕ) where
           (λ e.
           let own : y .bill .contract ≡ c = eq-yes _ _ e in
           reach-cases c first (x .bill) r
-          (λ l. let z : ⊥ = omega (arith, later-contract c x y t h l) in absurd z)
+          (λ l. let z : ⊥ = omega (arith, contracts-ascend x y t h) in absurd z)
           (λ o l.
           let begins : last < x .bill .first = le-no (x .bill .first) last (and-no-left (leb (x .bill .first) last) (leb first (x .bill .last)) (and-no (eqb (x .bill .contract) c) _ n (yes-eq _ _ (sym o))) (yes-le _ _ l)) in
-          rw (e, no-le (y .bill .first) last (omega (arith, s .days, begins, later-first c x y s h o own)))))
+          rw (e, no-le (y .bill .first) last (omega (arith, s .days, begins, begins-later x y h (sym o ∙ sym own))))))
           (λ e. rw e);
     }
 
@@ -216,7 +193,7 @@ module _ (c first : ℕ) where
     pub shares-at : (xs : List Row) → All Span xs → Apart xs → ltb 0 (count (λ x. sharing c first last (x .bill)) xs) ≡ firstPasses (sharing c first last) (drop (placeOf reaching xs) xs)
     shares-at = any-found reaching (sharing c first last) (sharing-reached last)
 
-    -- of the rows after the one named, one shares a day just where their first does
+    -- a row that shares a day and isn't the one named
     abbrev sharesOther : Row → Bool
     sharesOther x = sharing c first last (x .bill) && not (named c first (x .bill))
 
@@ -225,12 +202,9 @@ module _ (c first : ℕ) where
     all-reach (x ∷ xs) r = rw (r .0)
 
     weighs-alike : (y : Row) → named c first (y .bill) ≡ false → _≡_ {A = ℕ} (cond (sharesOther y) 1 0) (cond (sharing c first last (y .bill)) 1 0)
-    weighs-alike y e = rw e (go (sharing c first last (y .bill)))
-      where
-        go : (a : Bool) → _≡_ {A = ℕ} (cond (a && true) 1 0) (cond a 1 0)
-        go true = refl
-        go false = refl
+    weighs-alike y e = rw (and-true (sharing c first last (y .bill)) _ (no-not _ e))
 
+    -- of the rows after the one named, one shares a day just where their first does
     next-shares : (x : Row) (xs : List Row) → Span x → All Span xs → All (before x) xs → Apart xs → named c first (x .bill) ≡ true
         → ltb 0 (count sharesOther xs) ≡ firstPasses (sharing c first last) xs
     unfolding named
@@ -239,7 +213,7 @@ module _ (c first : ℕ) where
         let begins : x .bill .first ≡ first = eq-yes _ _ (and-right (eqb (x .bill .contract) c) _ n) in
         let reached : reaching (x .bill) ≡ true = reach-own c first (x .bill) (sym own) (omega (arith, s .days)) in
         let other : (y : Row) → before x y → named c first (y .bill) ≡ false = λ y h. either (eqb (y .bill .contract) c)
-        (λ e. rw (e, no-eq (y .bill .first) first (λ f. let z : ⊥ = omega (arith, s .days, later-first c x y s h (sym own) (eq-yes _ _ e)) in z)))
+        (λ e. rw (e, no-eq (y .bill .first) first (λ f. let z : ⊥ = omega (arith, s .days, begins-later x y h (own ∙ sym (eq-yes _ _ e))) in z)))
         (λ e. rw e) in
         ap (ltb 0) (total-all _ _ xs (all-map _ _ (λ y h. weighs-alike y (other y h)) xs b))
         ∙ shares-at xs ss a
@@ -252,20 +226,16 @@ module _ (c first : ℕ) where
     others-share (x ∷ xs) s a e = either (reaching (x .bill))
         (λ r.
         let n : named c first (x .bill) ≡ true = rw r at e in
-        rw (r, and-not (sharing c first last (x .bill)) (named c first (x .bill)) n) (ap (ltb 0) (zero-add (count sharesOther xs)) ∙ next-shares x xs (s .0) (s .1) (a .0) (a .1) n))
+        rw (r, and-false (sharing c first last (x .bill)) _ (ap not n)) (ap (ltb 0) (zero-add (count sharesOther xs)) ∙ next-shares x xs (s .0) (s .1) (a .0) (a .1) n))
         (λ r.
         let f : firstPasses (named c first) (drop (placeOf reaching xs) xs) ≡ true = rw r at e in
         rw (r, unreached reaching (sharing c first last) (sharing-reached last) x (s .0) r) (ap (ltb 0) (zero-add (count sharesOther xs)) ∙ others-share xs (s .1) (a .1) f))
-      where
-        and-not : (p q : Bool) → q ≡ true → p && not q ≡ false
-        and-not true q e = rw e
-        and-not false q e = refl
 
 -- ---- the rows of a contract
 
 module _ (p : Bill → Bool) where
   -- rows before the first that passes, where they weigh nothing or stay as they are
-  pub weightless-before : (w : Row → ℕ) → ((x : Row) → p (x .bill) ≡ false → w x ≡ 0) → (xs : List Row) → total w (drop (placeOf p xs) xs) ≡ total w xs
+  weightless-before : (w : Row → ℕ) → ((x : Row) → p (x .bill) ≡ false → w x ≡ 0) → (xs : List Row) → total w (drop (placeOf p xs) xs) ≡ total w xs
   weightless-before w z [] = refl
   weightless-before w z (x ∷ xs) = either (p (x .bill)) (λ e. rw e) (λ e. rw (e, z x e) (weightless-before w z xs ∙ sym (zero-add (total w xs))))
 
@@ -275,13 +245,14 @@ module _ (p : Bill → Bool) where
 
 -- a row that reaches the first day of a contract is of it or of a later one
 module _ (c : ℕ) (b : Bill) where
-  pub of-later : reaches c 0 b ≡ true → c ≤ b .contract
+  of-later : reaches c 0 b ≡ true → c ≤ b .contract
   of-later r = reach-cases c 0 b r (λ l. omega arith) (λ e l. omega arith)
 
-  pub of-earlier : reaches c 0 b ≡ false → b .contract < c
+  of-earlier : reaches c 0 b ≡ false → b .contract < c
+  unfolding reaches
   of-earlier r = either (ltb (b .contract) c) (λ l. lt-yes _ _ l) (λ l.
       let m : c ≤ b .contract = lt-no _ _ l in
-      absurd (true≢false (sym (either (ltb c (b .contract)) (λ h. reach-later c 0 b (lt-yes _ _ h)) (λ h. let n : b .contract ≤ c = lt-no _ _ h in reach-own c 0 b (omega arith) (omega arith))) ∙ r)))
+      absurd (true≢false (sym (carried c c (b .contract) true (leb 0 (b .last)) m (λ e y. yes-le 0 (b .last) (omega arith)) (by-day c c true refl refl)) ∙ r)))
 
 module _ (c : ℕ) (xs : List Row) (s : All Span xs) (a : Apart xs) where
   abbrev begin : ℕ

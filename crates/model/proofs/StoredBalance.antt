@@ -24,7 +24,7 @@ use Rattle.model.specs.Balance.{BalancedIn, sheetOf, StoredBalanceGoesOn
 use Rattle.model.proofs.Relation.{Related, dues}
 use Rattle.model.proofs.KeepsRelation.{named-contract, named-first}
 use Rattle.model.proofs.RowOrder.{Span}
-use Rattle.model.proofs.RowBounds.{row-span}
+use Rattle.model.proofs.RowBounds.{row-spans}
 use Rattle.model.proofs.RulesLaws.{RulesLaws}
 use Rattle.model.proofs.Balance.{balanced, last-claim, total-says}
 
@@ -60,7 +60,7 @@ module _ (R : Rules) (ok : RulesLaws R) (l : Ledger) (w : WellFormed R l) where
     same = λ v. total-all v _ (l .rows) (all-map _ _ (λ x o. ap v (standing x o)) (l .rows) (w .rows)) ∙ sym (total-map _ (λ x. x .bill) (l .rows));
     good = w .contracts;
     sane = all-over _ _ (λ x. x .bill) (λ x o. record { isOpened = o .isOpened; ranges = o .ranges }) (l .rows) (w .rows);
-    once = λ c first. rw (total-map (λ b. cond (named c first b) 1 0) (λ x. x .bill) (l .rows)) (once-named c first (l .rows) (all-map _ _ (λ x o. row-span ok o) (l .rows) (w .rows)) (w .apart));
+    once = λ c first. rw (total-map (λ b. cond (named c first b) 1 0) (λ x. x .bill) (l .rows)) (once-named c first (l .rows) (row-spans ok (l .contracts) (l .rows) (w .rows)) (w .apart));
   }
 
 -- ---- what a balance says of the pence

@@ -34,9 +34,9 @@ view l = record { territory = l .territory; contracts = l .contracts; held = λ 
 
 -- ---- rows
 
--- ascending by contract then first day
-abbrev pub comesAfter : (contract first : ℕ) → Bill → Bool
-comesAfter c first x = ltb c (x .contract) || (eqb c (x .contract) && ltb first (x .first))
+-- ascending by contract then first day: a bill after that day of the contract
+abbrev pub comesAfter : (contract day : ℕ) → Bill → Bool
+comesAfter c day x = ltb c (x .contract) || (eqb c (x .contract) && ltb day (x .first))
 
 unfoldable pub sortsAfter : Bill → Bill → Bool
 sortsAfter x b = comesAfter (b .contract) (b .first) x

@@ -84,7 +84,7 @@ module _ {A : Type 0} (k : RecordLayout A) (ok : A → Bool) where
       go false true f = refl
       go false false f = refl
 
-  pub held-passes : (v : List ℕ) → eqb (getD v 0 0) 0 ≡ false → test v ≡ true → ok (recordOf k v) ≡ true
+  held-passes : (v : List ℕ) → eqb (getD v 0 0) 0 ≡ false → test v ≡ true → ok (recordOf k v) ≡ true
   unfolding slotOk
   held-passes v e t = rw e at (and-right (allZero (drop (suc (length (k .widths))) v)) _ t)
 

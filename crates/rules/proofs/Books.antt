@@ -15,7 +15,7 @@ use Rattle.basics.proofs.Tests.{either, yes-eq, no-eq, yes-lt, lt-yes, lt-no}
 use Rattle.model.specs.PresentRules.{badBook}
 use borrow.Author.Tests.{le-ltb}
 
--- the highest of the entries before place i: it is too high, or one from there on is, just where one of all is
+-- at place i: what is highest so far is too high, or an entry from there on is, just where one of all is
 pub record HighestTo (book : List ℕ) (i highest : ℕ) : Type 0 where
   pub place : i ≤ length book
   pub rest : ltb highestPrice highest || ltb 0 (count (ltb highestPrice) (drop i book)) ≡ ltb 0 (count (ltb highestPrice) book)

@@ -1,6 +1,5 @@
 -- `comes_after` is the test of the order by contract and day.
 use borrow.Author.Tests.{lt-ltb, le-ltb, eq-eqb, ne-eqb}
-use borrow.Author.Needs.{needs}
 use Rattle.ledger.proofs.rows.comes_after.Statement.{statement}
 use Rattle.ledger.proofs.rows.comes_after.Tie as tie
 

@@ -1,7 +1,6 @@
 -- `is_named` is the test of a row's contract and first day.
 use borrow.Author.Tests.{eq-eqb, ne-eqb}
 use Rattle.model.specs.Calls.{named}
-use borrow.Author.Needs.{needs}
 use Rattle.ledger.proofs.rows.is_named.Statement.{statement}
 use Rattle.ledger.proofs.rows.is_named.Tie as tie
 

@@ -1,7 +1,6 @@
 -- `is_reaching` is the test of the order by contract and last day.
 use borrow.Author.Tests.{lt-ltb, le-ltb, eq-eqb, ne-eqb}
 use Rattle.model.specs.Places.{reaches}
-use borrow.Author.Needs.{needs}
 use Rattle.ledger.proofs.rows.is_reaching.Statement.{statement}
 use Rattle.ledger.proofs.rows.is_reaching.Tie as tie
 

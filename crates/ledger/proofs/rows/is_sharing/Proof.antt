@@ -1,7 +1,6 @@
 -- `is_sharing` is the test of a shared day.
 use borrow.Author.Tests.{eq-eqb, ne-eqb, le-leb, lt-leb}
 use Rattle.model.specs.Calls.{sharing}
-use borrow.Author.Needs.{needs}
 use Rattle.ledger.proofs.rows.is_sharing.Statement.{statement}
 use Rattle.ledger.proofs.rows.is_sharing.Tie as tie
 

@@ -1,7 +1,5 @@
 -- `bad_book` is the test of a book: its length, and the highest of its entries.
-use mathlib.Core.Path.{_∙_}
 use Prim.Native.Nat.{_-_}
-use native.Mathlib.Omega.{arith}
 use lib.ListN.{length}
 use Rattle.rules.proofs.Books.{HighestTo, book-length, highest-none, highest-next, book-tested}
 use borrow.Author.Needs.{needs}
