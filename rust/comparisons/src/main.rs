@@ -12,6 +12,7 @@ mod cuts;
 mod damaged_ledgers;
 mod damages;
 mod dates;
+mod each_call;
 mod generator;
 mod implementations;
 mod ledgers_stored_earlier;
