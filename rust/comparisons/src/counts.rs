@@ -1,15 +1,15 @@
-//! What the comparisons met: sessions, calls, refusals, rows, bills with a change inside, stored
-//! and damaged ledgers, and differences.
+//! What the comparisons met: sessions, calls, refusals, rows, bills with a change inside, searches
+//! among rows, stored and damaged ledgers, and differences.
 
 use crate::changes_met::{ChangesMet, FewestChanges};
 use crate::sorts::Sorts;
-use crate::{ledgers_stored_earlier, rows_across_months, rows_met};
+use crate::{ledgers_stored_earlier, places_met, rows_across_months, rows_met};
 use calculator::calls::Outcome;
 use calculator::refusals::LAST_REFUSAL;
 use std::collections::BTreeMap;
 use std::fmt::Display;
 
-/// How often each refusal, each accepted call and each sort of row must be met.
+/// How often each refusal, each accepted call and each sort of row and of search must be met.
 const FEWEST_MET: u64 = 100;
 
 /// How often each sort of call on rows across months must be met.
@@ -69,6 +69,8 @@ pub struct Findings {
     pub rows_across_months: Sorts,
     /// The calls on ledgers stored before amounts were by day.
     pub ledgers_stored_earlier: Sorts,
+    /// The calls that look for rows and for places among them.
+    pub searches: Sorts,
     damages: BTreeMap<String, DamageCounts>,
     differences: u64,
 }
@@ -168,6 +170,7 @@ impl Findings {
                 ledgers_stored_earlier::sorts(),
                 FEWEST_MET_ON_LEDGERS_STORED_EARLIER,
             ),
+            searches: Sorts::new(places_met::sorts(), FEWEST_MET),
             damages: BTreeMap::new(),
             differences: 0,
         }
@@ -212,11 +215,12 @@ impl Findings {
     }
 
     /// What is counted by sort, under its title.
-    fn sorts(&self) -> [(&'static str, &Sorts); 3] {
+    fn sorts(&self) -> [(&'static str, &Sorts); 4] {
         [
             ("rows", &self.rows),
             ("rows across months", &self.rows_across_months),
             ("ledgers stored earlier", &self.ledgers_stored_earlier),
+            ("searches", &self.searches),
         ]
     }
 
@@ -252,10 +256,11 @@ mod tests {
     use std::mem::swap;
 
     /// What is counted by sort.
-    const SORTS: [fn(&mut Findings) -> &mut Sorts; 3] = [
+    const SORTS: [fn(&mut Findings) -> &mut Sorts; 4] = [
         |findings| &mut findings.rows,
         |findings| &mut findings.rows_across_months,
         |findings| &mut findings.ledgers_stored_earlier,
+        |findings| &mut findings.searches,
     ];
 
     /// Everything that must be met, met often enough.

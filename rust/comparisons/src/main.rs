@@ -18,10 +18,14 @@ mod implementations;
 mod ledgers_stored_earlier;
 mod library_histories;
 mod months;
+mod places_met;
 mod program_sessions;
 mod random;
 mod rows_across_months;
 mod rows_met;
+mod searched_ledgers;
+mod searches;
+mod searching_calls;
 mod session_text;
 mod sorts;
 mod stored_rows;
@@ -46,6 +50,7 @@ fn main() -> ExitCode {
     library_histories::compare(&mut findings, seed);
     stored_rows::compare(&mut findings, seed);
     ledgers_stored_earlier::compare(&mut findings, seed);
+    searches::compare(&mut findings, seed);
     damaged_ledgers::compare(&mut findings, seed);
     findings.print();
     if findings.passed() {
