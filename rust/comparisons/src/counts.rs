@@ -1,15 +1,16 @@
 //! What the comparisons met: sessions, calls, refusals, rows, bills with a change inside, searches
-//! among rows, stored and damaged ledgers, and differences.
+//! among rows, stored, disordered and damaged ledgers, and differences.
 
 use crate::changes_met::{ChangesMet, FewestChanges};
 use crate::sorts::Sorts;
-use crate::{ledgers_stored_earlier, places_met, rows_across_months, rows_met};
+use crate::{disordered_ledgers, ledgers_stored_earlier, places_met, rows_across_months, rows_met};
 use calculator::calls::Outcome;
 use calculator::refusals::LAST_REFUSAL;
 use std::collections::BTreeMap;
 use std::fmt::Display;
 
-/// How often each refusal, each accepted call and each sort of row and of search must be met.
+/// How often each refusal, each accepted call, each sort of row and of search and each kind of
+/// disorder must be met.
 const FEWEST_MET: u64 = 100;
 
 /// How often each sort of call on rows across months must be met.
@@ -71,6 +72,8 @@ pub struct Findings {
     pub ledgers_stored_earlier: Sorts,
     /// The calls that look for rows and for places among them.
     pub searches: Sorts,
+    /// The ledgers whose rows are out of order or share a day.
+    pub disordered_ledgers: Sorts,
     damages: BTreeMap<String, DamageCounts>,
     differences: u64,
 }
@@ -171,6 +174,7 @@ impl Findings {
                 FEWEST_MET_ON_LEDGERS_STORED_EARLIER,
             ),
             searches: Sorts::new(places_met::sorts(), FEWEST_MET),
+            disordered_ledgers: Sorts::new(disordered_ledgers::sorts(), FEWEST_MET),
             damages: BTreeMap::new(),
             differences: 0,
         }
@@ -215,12 +219,13 @@ impl Findings {
     }
 
     /// What is counted by sort, under its title.
-    fn sorts(&self) -> [(&'static str, &Sorts); 4] {
+    fn sorts(&self) -> [(&'static str, &Sorts); 5] {
         [
             ("rows", &self.rows),
             ("rows across months", &self.rows_across_months),
             ("ledgers stored earlier", &self.ledgers_stored_earlier),
             ("searches", &self.searches),
+            ("disordered ledgers", &self.disordered_ledgers),
         ]
     }
 
@@ -256,11 +261,12 @@ mod tests {
     use std::mem::swap;
 
     /// What is counted by sort.
-    const SORTS: [fn(&mut Findings) -> &mut Sorts; 4] = [
+    const SORTS: [fn(&mut Findings) -> &mut Sorts; 5] = [
         |findings| &mut findings.rows,
         |findings| &mut findings.rows_across_months,
         |findings| &mut findings.ledgers_stored_earlier,
         |findings| &mut findings.searches,
+        |findings| &mut findings.disordered_ledgers,
     ];
 
     /// Everything that must be met, met often enough.

@@ -12,6 +12,8 @@ mod cuts;
 mod damaged_ledgers;
 mod damages;
 mod dates;
+mod disordered_ledgers;
+mod disorders;
 mod each_call;
 mod generator;
 mod implementations;
@@ -51,6 +53,7 @@ fn main() -> ExitCode {
     stored_rows::compare(&mut findings, seed);
     ledgers_stored_earlier::compare(&mut findings, seed);
     searches::compare(&mut findings, seed);
+    disordered_ledgers::compare(&mut findings, seed);
     damaged_ledgers::compare(&mut findings, seed);
     findings.print();
     if findings.passed() {
