@@ -160,7 +160,7 @@ pub(crate) fn effective_day_in_range(certificate: Certificate, effective_day: u3
 }
 
 /// Number 7: whether 486 ≤ first ≤ last ≤ 851.
-pub(crate) fn span_in_range(first_day: u32, last_day: u32) -> bool {
+pub fn span_in_range(first_day: u32, last_day: u32) -> bool {
     SCHEME_FIRST_DAY <= first_day && first_day <= last_day && last_day <= LAST_DAY
 }
 

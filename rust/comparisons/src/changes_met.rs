@@ -4,7 +4,7 @@
 
 use crate::changes_inside::{change_shown, Change};
 use crate::cuts::{edges_shown, BEGINNINGS, EDGES, NEW_MINIMUM_OF_SHARE};
-use crate::rows_met::contract_of;
+use crate::rows_met::{contract_of, key};
 use crate::sorts::Sorts;
 use calculator::packed::{Facts, Row};
 use calculator::rates::{Bill, Contract};
@@ -117,9 +117,8 @@ impl ChangesMet {
     }
 }
 
-/// Whether the facts hold the row. Rows ascend by contract, then first day.
+/// Whether the facts hold the row.
 fn holds(facts: &Facts, row: &Row) -> bool {
-    let key = |row: &Row| (row.contract, row.bill.first_day);
     let found = facts.rows.binary_search_by_key(&key(row), key);
     found.is_ok_and(|place| facts.rows[place] == *row)
 }

@@ -211,7 +211,7 @@ fn numbers_that_show_changes(
 }
 
 /// No shares, a QHS share, or that and an ETII share of a bill of that many kWh.
-fn shares_with_qhs(random: &mut Random, kwh: u32) -> (u32, u32) {
+pub fn shares_with_qhs(random: &mut Random, kwh: u32) -> (u32, u32) {
     let qhs_share = random.within(1..=kwh);
     let etii_share = random.within(0..=kwh - qhs_share);
     random.one_of(&[(0, 0), (0, 0), (0, qhs_share), (etii_share, qhs_share)])
@@ -220,7 +220,7 @@ fn shares_with_qhs(random: &mut Random, kwh: u32) -> (u32, u32) {
 /// S and R at which every class and, but for a few S, either QHS minimum has a rate of its own:
 /// the baseline and the ETII part have their maximum, and R is above the margins over both QHS
 /// minimums.
-fn prices_that_show_changes(random: &mut Random, fuel: Fuel) -> (u32, u32) {
+pub fn prices_that_show_changes(random: &mut Random, fuel: Fuel) -> (u32, u32) {
     match fuel {
         Fuel::Electricity => (
             random.within(34_001..=42_000),

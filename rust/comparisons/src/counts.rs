@@ -1,15 +1,16 @@
-//! What the comparisons met: sessions, calls, refusals, rows, bills with a change inside, stored
-//! and damaged ledgers, and differences.
+//! What the comparisons met: sessions, calls, refusals, rows, bills with a change inside, searches
+//! among rows, stored, disordered and damaged ledgers, and differences.
 
 use crate::changes_met::{ChangesMet, FewestChanges};
 use crate::sorts::Sorts;
-use crate::{ledgers_stored_earlier, rows_across_months, rows_met};
+use crate::{disordered_ledgers, ledgers_stored_earlier, places_met, rows_across_months, rows_met};
 use calculator::calls::Outcome;
 use calculator::refusals::LAST_REFUSAL;
 use std::collections::BTreeMap;
 use std::fmt::Display;
 
-/// How often each refusal, each accepted call and each sort of row must be met.
+/// How often each refusal, each accepted call, each sort of row and of search and each kind of
+/// disorder must be met.
 const FEWEST_MET: u64 = 100;
 
 /// How often each sort of call on rows across months must be met.
@@ -69,6 +70,10 @@ pub struct Findings {
     pub rows_across_months: Sorts,
     /// The calls on ledgers stored before amounts were by day.
     pub ledgers_stored_earlier: Sorts,
+    /// The calls that look for rows and for places among them.
+    pub searches: Sorts,
+    /// The ledgers whose rows are out of order or share a day.
+    pub disordered_ledgers: Sorts,
     damages: BTreeMap<String, DamageCounts>,
     differences: u64,
 }
@@ -168,6 +173,8 @@ impl Findings {
                 ledgers_stored_earlier::sorts(),
                 FEWEST_MET_ON_LEDGERS_STORED_EARLIER,
             ),
+            searches: Sorts::new(places_met::sorts(), FEWEST_MET),
+            disordered_ledgers: Sorts::new(disordered_ledgers::sorts(), FEWEST_MET),
             damages: BTreeMap::new(),
             differences: 0,
         }
@@ -193,11 +200,7 @@ impl Findings {
     pub fn print(&self) {
         self.program.print();
         self.library.print();
-        for (title, sorts) in [
-            ("rows", &self.rows),
-            ("rows across months", &self.rows_across_months),
-            ("ledgers stored earlier", &self.ledgers_stored_earlier),
-        ] {
+        for (title, sorts) in self.sorts() {
             println!("  {title}: {}", listed(sorts.met()));
         }
         println!("damaged ledgers:");
@@ -215,6 +218,17 @@ impl Findings {
         println!("comparisons: {} differences", self.differences);
     }
 
+    /// What is counted by sort, under its title.
+    fn sorts(&self) -> [(&'static str, &Sorts); 5] {
+        [
+            ("rows", &self.rows),
+            ("rows across months", &self.rows_across_months),
+            ("ledgers stored earlier", &self.ledgers_stored_earlier),
+            ("searches", &self.searches),
+            ("disordered ledgers", &self.disordered_ledgers),
+        ]
+    }
+
     /// Whether there is no difference and everything was met often enough.
     pub fn passed(&self) -> bool {
         self.differences == 0 && self.met_too_few_times().is_empty()
@@ -223,12 +237,7 @@ impl Findings {
     /// What must be met and was met too few times, and how often it was.
     fn met_too_few_times(&self) -> Vec<(String, u64)> {
         let sides = [&self.program, &self.library].map(Counts::met_too_few_times);
-        let sorts = [
-            &self.rows,
-            &self.rows_across_months,
-            &self.ledgers_stored_earlier,
-        ]
-        .map(Sorts::met_too_few_times);
+        let sorts = self.sorts().map(|(_, sorts)| sorts.met_too_few_times());
         let damages = self.damages.iter();
         let damages = damages.filter(|(_, counts)| counts.tried < counts.fewest);
         let damages = damages.map(|(kind, counts)| (kind.clone(), counts.tried));
@@ -248,7 +257,17 @@ fn listed<Name: Display>(counts: impl IntoIterator<Item = (Name, u64)>) -> Strin
 
 #[cfg(test)]
 mod tests {
-    use super::{DamageCounts, Findings, FEWEST_MET};
+    use super::{DamageCounts, Findings, Sorts, FEWEST_MET};
+    use std::mem::swap;
+
+    /// What is counted by sort.
+    const SORTS: [fn(&mut Findings) -> &mut Sorts; 5] = [
+        |findings| &mut findings.rows,
+        |findings| &mut findings.rows_across_months,
+        |findings| &mut findings.ledgers_stored_earlier,
+        |findings| &mut findings.searches,
+        |findings| &mut findings.disordered_ledgers,
+    ];
 
     /// Everything that must be met, met often enough.
     fn sufficient_findings() -> Findings {
@@ -265,9 +284,9 @@ mod tests {
             }
             side.changes.count_each_often_enough();
         }
-        findings.rows.count_each_often_enough();
-        findings.rows_across_months.count_each_often_enough();
-        findings.ledgers_stored_earlier.count_each_often_enough();
+        for sorts in SORTS {
+            sorts(&mut findings).count_each_often_enough();
+        }
         findings
     }
 
@@ -283,21 +302,11 @@ mod tests {
 
     #[test]
     fn each_of_the_sorts_must_be_met() {
-        let all_but_rows = Findings {
-            rows: Findings::new().rows,
-            ..sufficient_findings()
-        };
-        assert!(!all_but_rows.passed());
-        let all_but_rows_across_months = Findings {
-            rows_across_months: Findings::new().rows_across_months,
-            ..sufficient_findings()
-        };
-        assert!(!all_but_rows_across_months.passed());
-        let all_but_ledgers_stored_earlier = Findings {
-            ledgers_stored_earlier: Findings::new().ledgers_stored_earlier,
-            ..sufficient_findings()
-        };
-        assert!(!all_but_ledgers_stored_earlier.passed());
+        for sorts in SORTS {
+            let mut findings = sufficient_findings();
+            swap(sorts(&mut findings), sorts(&mut Findings::new()));
+            assert!(!findings.passed());
+        }
     }
 
     #[test]

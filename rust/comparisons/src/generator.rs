@@ -341,7 +341,7 @@ pub fn shares_above(random: &mut Random, kwh: u32, high: u32) -> (u32, u32) {
 }
 
 /// The contract numbers that are open, or that aren't.
-fn contract_numbers(facts: &Facts, open: bool) -> Vec<u32> {
+pub fn contract_numbers(facts: &Facts, open: bool) -> Vec<u32> {
     let numbered = (0..).zip(&facts.contracts);
     let wanted = numbered.filter(|(_, contract)| contract.is_some() == open);
     wanted.map(|(number, _)| number).collect()

@@ -2,19 +2,15 @@
 //! has all its kWh at the rates of its first day. Where the amount is then another, the ledger is
 //! malformed from now on; without a change inside any bill it is taken.
 
-use crate::books::random_book;
 use crate::changes_inside::{amount_by_first_day, stretches};
 use crate::changing_calls::CHANGING;
-use crate::compared_calls::{compare_call, LedgerCall};
 use crate::counts::Findings;
 use crate::damaged_ledgers::random_facts;
-use crate::generator::EACH_BUT_START;
+use crate::each_call::{compare_each_call, NAMES};
 use crate::random::Random;
 use crate::rows_met::contract_of;
-use calculator::calls::{Call, Outcome};
 use calculator::codes::Territory;
-use calculator::packed::{pack, Facts, Row};
-use calculator::refusals::LEDGER_NOT_WELL_FORMED;
+use calculator::packed::{Facts, Row};
 
 const KIND: &str = "ledgers stored earlier";
 
@@ -23,11 +19,6 @@ const LEDGERS: u64 = 1_200;
 
 /// The calls that leave the facts of a ledger.
 const CALLS_BEFORE: usize = 160;
-
-/// The calls on a ledger, each once. Start isn't one of them: it takes any contents.
-const NAMES: [&str; 8] = [
-    "open", "bill", "rebill", "cert", "cancel", "claim", "report", "total",
-];
 
 /// How a ledger is stored.
 struct Stored {
@@ -80,7 +71,11 @@ fn compare_ledger(findings: &mut Findings, seed: u64, number: u64) {
         if let Some(facts) = (stored.facts)(&mut random, &facts) {
             findings.library.count_run(KIND);
             let place = format!("seed {seed}, {KIND}, number {number}, {}", stored.name);
-            compare_calls(findings, &mut random, stored, &facts, &place);
+            let refused = stored.refused;
+            for name in compare_each_call(findings, &mut random, &facts, refused, &place) {
+                let sort = sort(stored, name);
+                findings.ledgers_stored_earlier.count(&sort);
+            }
         }
     }
 }
@@ -91,43 +86,6 @@ fn territory(number: u64) -> Territory {
         0 => Territory::GreatBritain,
         _ => Territory::NorthernIreland,
     }
-}
-
-/// Compares each call on the ledger as it is stored.
-fn compare_calls(
-    findings: &mut Findings,
-    random: &mut Random,
-    stored: &Stored,
-    facts: &Facts,
-    place: &str,
-) {
-    let ledger = pack(facts);
-    for draw in EACH_BUT_START {
-        let call = draw(random, facts);
-        let ledger_call = LedgerCall {
-            ledger: &ledger,
-            book: &random_book(random, &call),
-            call: &call,
-        };
-        let expected = compare_call(findings, &ledger_call, || place.to_string());
-        if is_as_stored(stored, &expected.outcome, expected.ledger == ledger) {
-            let sort = sort(stored, call.name());
-            findings.ledgers_stored_earlier.count(&sort);
-        } else {
-            findings.count_difference(|| described(place, &call, &expected.outcome));
-        }
-    }
-}
-
-/// Whether the calculator refuses the call by number 2 and changes no byte, or doesn't refuse it
-/// by that number, as it must.
-fn is_as_stored(stored: &Stored, outcome: &Outcome, unchanged: bool) -> bool {
-    let refused = *outcome == Err(LEDGER_NOT_WELL_FORMED);
-    refused == stored.refused && (unchanged || !refused)
-}
-
-fn described(place: &str, call: &Call, outcome: &Outcome) -> String {
-    format!("{place}: the calculator answers {outcome:?} to {call:?}")
 }
 
 fn sort(stored: &Stored, name: &str) -> String {
@@ -177,10 +135,9 @@ fn without_changes(_: &mut Random, facts: &Facts) -> Option<Facts> {
 
 #[cfg(test)]
 mod tests {
-    use super::{is_as_stored, STORED};
+    use super::STORED;
     use crate::changing_calls::CHANGING;
     use crate::damaged_ledgers::random_facts;
-    use crate::generator::EACH_BUT_START;
     use crate::random::Random;
     use calculator::codes::Territory;
     use calculator::packed::{pack, unpack, Facts};
@@ -222,26 +179,5 @@ mod tests {
             most = most.max(all.unwrap_or_default());
         }
         assert!(most > 3);
-    }
-
-    #[test]
-    fn a_refusal_by_2_that_changes_no_byte_is_what_is_expected() {
-        let [refused, _, taken] = STORED;
-        assert!(is_as_stored(&refused, &Err(2), true));
-        assert!(!is_as_stored(&refused, &Err(2), false));
-        assert!(!is_as_stored(&refused, &Err(4), true));
-        assert!(!is_as_stored(&refused, &Ok(vec![]), true));
-        assert!(is_as_stored(&taken, &Ok(vec![]), false));
-        assert!(is_as_stored(&taken, &Ok(vec![]), true));
-        assert!(is_as_stored(&taken, &Err(4), true));
-        assert!(!is_as_stored(&taken, &Err(2), true));
-    }
-
-    #[test]
-    fn each_call_but_start_is_made() {
-        let mut random = Random::new(1, "stored earlier", 0);
-        let facts = drawn_facts(&mut random);
-        let calls = EACH_BUT_START.map(|draw| draw(&mut random, &facts));
-        assert!(calls.iter().map(|call| call.name()).eq(super::NAMES));
     }
 }

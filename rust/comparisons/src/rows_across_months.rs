@@ -3,7 +3,7 @@
 //! by what they do.
 
 use crate::months::months_touched;
-use crate::rows_met::{contract_name, contract_of};
+use crate::rows_met::{contract_name, contract_of, key};
 use crate::sorts::Sorts;
 use calculator::calls::{Call, Outcome};
 use calculator::packed::{Facts, Row};
@@ -88,10 +88,6 @@ fn concerns(call: &Call, row: &Row) -> bool {
         Call::Cancel { contract, first } => (contract, first) == key(row),
         Call::Start { .. } | Call::Open { .. } | Call::Claim | Call::Total => false,
     }
-}
-
-fn key(row: &Row) -> (u32, u32) {
-    (row.contract, row.bill.first_day)
 }
 
 /// What a call did to a row that it concerns.

@@ -5,7 +5,9 @@
 use crate::sorts::Sorts;
 use calculator::codes::QHS_FIRST_DAY;
 use calculator::packed::{Facts, Row};
-use calculator::rates::{class_of_bill, Bill, Class, Contract, Fuel, Kind, NEW_QHS_MINIMUM_DAY};
+use calculator::rates::{
+    amount, class_of_bill, Bill, Class, Contract, Fuel, Kind, NEW_QHS_MINIMUM_DAY,
+};
 
 /// The names of the kinds in the order of their codes.
 const KINDS: [&str; 4] = ["fixed", "variable", "flexible", "index"];
@@ -58,6 +60,21 @@ pub fn count_certificate(sorts: &mut Sorts, contract: u32, before: &Facts, after
 /// The contract of a held row.
 pub fn contract_of(facts: &Facts, row: &Row) -> Contract {
     facts.contracts[row.contract as usize].expect("the contract of a held row is open")
+}
+
+/// The row of a bill of an open contract.
+pub fn row_of(facts: &Facts, contract: u32, bill: Bill) -> Row {
+    let open = facts.contracts[contract as usize].expect("the contract of a row is open");
+    Row {
+        contract,
+        bill,
+        amount: amount(&open, &bill),
+    }
+}
+
+/// The contract and the first day of a row, by which rows ascend.
+pub fn key(row: &Row) -> (u32, u32) {
+    (row.contract, row.bill.first_day)
 }
 
 /// The kind and the fuel of a contract.

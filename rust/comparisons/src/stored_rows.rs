@@ -8,12 +8,12 @@ use crate::library_histories::compare_next_call;
 use crate::months::month_end;
 use crate::random::Random;
 use crate::rows_across_months::{count_call, rows_across_months, CallMade};
-use crate::rows_met::contract_of;
+use crate::rows_met::{contract_of, row_of};
 use calculator::codes::{spans_share_a_day, Territory};
 use calculator::dates::LAST_DAY;
 use calculator::facts::CONTRACTS;
 use calculator::packed::{pack, Facts, Row};
-use calculator::rates::{amount, Bill, Contract};
+use calculator::rates::Bill;
 
 const KIND: &str = "histories of stored rows across months";
 
@@ -79,7 +79,7 @@ fn stored_facts(random: &mut Random) -> Facts {
                 && spans_share_a_day(before.bill.span(), row.bill.span())
         });
         if !taken {
-            rows.push(lengthened(random, &contract_of(&facts, row), row));
+            rows.push(lengthened(random, &facts, row));
         }
     }
     facts.rows = rows;
@@ -88,7 +88,7 @@ fn stored_facts(random: &mut Random) -> Facts {
 
 /// The row with a last day in its first month or, mostly, in one of the next two: the first or
 /// the last day of that month, or any. Its amount is that of the longer bill.
-fn lengthened(random: &mut Random, contract: &Contract, row: &Row) -> Row {
+fn lengthened(random: &mut Random, facts: &Facts, row: &Row) -> Row {
     let mut earliest = row.bill.first_day;
     for _ in 0..random.one_of(&[0, 1, 1, 1, 2, 2, 2, 2]) {
         earliest = (month_end(earliest) + 1).min(LAST_DAY);
@@ -99,11 +99,7 @@ fn lengthened(random: &mut Random, contract: &Contract, row: &Row) -> Row {
         last_day: random.one_of(&[earliest, latest, any]),
         ..row.bill
     };
-    Row {
-        bill,
-        amount: amount(contract, &bill),
-        ..*row
-    }
+    row_of(facts, row.contract, bill)
 }
 
 /// The facts with the rows across months and their contracts alone, on which calls are drawn
