@@ -2,7 +2,7 @@
 use Prim.Native.Nat.{ℕ, _*_, _^_, _<_, _≤_}
 use native.Mathlib.Omega.{arith}
 use Rattle.limits.specs.Limits.{highestPrice, mostKwhStored}
-use Rattle.rates.specs.declared.Contract.{Contract}
+use Rattle.rates.specs.declared.Terms.{Terms}
 use Rattle.rates.specs.Rates.{certifiedClass}
 use Rattle.rates.proofs.WithinCaps.{highestRate, class-rate-capped, class-rate-low}
 use Rattle.amounts.specs.declared.Bill.{Bill}
@@ -14,21 +14,21 @@ abbrev pub highestAmount : ℕ
 highestAmount = mostKwhStored * highestRate
 
 -- the rate that a bill answers
-pub rate-low : (contract : Contract) (bill : Bill) → bill .supply ≤ highestPrice → rate contract bill ≤ highestRate
+pub rate-low : (terms : Terms) (bill : Bill) → bill .supply ≤ highestPrice → rate terms bill ≤ highestRate
 unfolding rate
-rate-low contract bill h = class-rate-low (contract .fuel) (certifiedClass (restCertificate contract bill) (contract .kind) (bill .first)) (bill .reference) (bill .supply) h
+rate-low terms bill h = class-rate-low (terms .fuel) (certifiedClass (restCertificate terms bill) (terms .kind) (bill .first)) (bill .reference) (bill .supply) h
 
-pub amount-capped : (contract : Contract) (bill : Bill) → amount contract bill ≤ cap contract bill
+pub amount-capped : (terms : Terms) (bill : Bill) → amount terms bill ≤ cap terms bill
 unfolding amount cap
-amount-capped contract bill = bill-le _ _ contract bill (λ c. class-rate-capped (contract .fuel) c (bill .reference) (bill .supply))
+amount-capped terms bill = bill-le _ _ terms bill (λ c. class-rate-capped (terms .fuel) c (bill .reference) (bill .supply))
 
 -- within the ranges of a row
-pub amount-low : (contract : Contract) (bill : Bill) → Rateable bill → amount contract bill ≤ highestAmount
+pub amount-low : (terms : Terms) (bill : Bill) → Rateable bill → amount terms bill ≤ highestAmount
 unfolding amount
-amount-low contract bill ok =
-    let each : billAt (rateOf contract bill) contract bill ≤ billAt (λ c. highestRate) contract bill
-    = bill-le _ _ contract bill (λ c. class-rate-low (contract .fuel) c (bill .reference) (bill .supply) (ok .supply)) in
-    omega (arith, each, bill-one-price highestRate contract bill (ok .days) (ok .shares), ok .kwh)
+amount-low terms bill ok =
+    let each : billAt (rateOf terms bill) terms bill ≤ billAt (λ c. highestRate) terms bill
+    = bill-le _ _ terms bill (λ c. class-rate-low (terms .fuel) c (bill .reference) (bill .supply) (ok .supply)) in
+    omega (arith, each, bill-one-price highestRate terms bill (ok .days) (ok .shares), ok .kwh)
 
-pub amount-bits : (contract : Contract) (bill : Bill) → Rateable bill → amount contract bill < 2 ^ 50
-amount-bits contract bill ok = omega (arith, amount-low contract bill ok)
+pub amount-bits : (terms : Terms) (bill : Bill) → Rateable bill → amount terms bill < 2 ^ 50
+amount-bits terms bill ok = omega (arith, amount-low terms bill ok)

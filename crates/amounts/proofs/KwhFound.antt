@@ -6,7 +6,7 @@ use Prim.Native.Nat.{ℕ, _+_, _-_, _*_, _≤_, _<_, max}
 use native.Mathlib.Omega.{arith}
 use Rattle.limits.specs.Limits.{newMinimumDay}
 use Rattle.basics.proofs.Tests.{either}
-use Rattle.rates.specs.declared.Contract.{Contract}
+use Rattle.rates.specs.declared.Terms.{Terms}
 use Rattle.rates.specs.declared.Certificate.{Certificate}
 use Rattle.rates.specs.declared.Certificate.the-variants.{None, Etii, Qhs}
 use Rattle.rates.specs.declared.Class.{Class}
@@ -82,51 +82,51 @@ module _ (price : Class → ℕ) (kind : Kind) (bill : Bill) (k : ℕ) where
 
 -- ---- what the code finds: without shares by the certificate, and with shares
 
-module _ (contract : Contract) (bill : Bill) (ok : Rateable bill) where
+module _ (terms : Terms) (bill : Bill) (ok : Rateable bill) where
   abbrev found : (baseline etii old new : ℕ) → KwhByClass
   found baseline etii old new = record { baseline = baseline; etii = etii; old = old; new = new }
 
   module _ (none : hasShares bill ≡ false) where
-    under : (price : Class → ℕ) (c : Certificate) → contract .certificate ≡ c → billAt price contract bill ≡ shareAt price (contract .kind) bill (share (bill .kwh) c)
-    under price c e = rw (sym e) (bill-without price contract bill none)
+    under : (price : Class → ℕ) (c : Certificate) → terms .certificate ≡ c → billAt price terms bill ≡ shareAt price (terms .kind) bill (share (bill .kwh) c)
+    under price c e = rw (sym e) (bill-without price terms bill none)
 
-    pub kwh-none : contract .certificate ≡ None → KwhOf contract bill (found (bill .kwh) 0 0 0)
+    pub kwh-none : terms .certificate ≡ None → KwhOf terms bill (found (bill .kwh) 0 0 0)
     kwh-none e = record {
-      priced = λ price. under price None e ∙ share-none price (contract .kind) bill (bill .kwh) (ok .days) ∙ omega arith;
+      priced = λ price. under price None e ∙ share-none price (terms .kind) bill (bill .kwh) (ok .days) ∙ omega arith;
       whole = omega arith;
     }
 
-    pub kwh-etii : (day before : ℕ) → contract .certificate ≡ Etii day → before ≡ kwhBefore bill (bill .kwh) day → before ≤ bill .kwh
-        → KwhOf contract bill (found before (bill .kwh - before) 0 0)
+    pub kwh-etii : (day before : ℕ) → terms .certificate ≡ Etii day → before ≡ kwhBefore bill (bill .kwh) day → before ≤ bill .kwh
+        → KwhOf terms bill (found before (bill .kwh - before) 0 0)
     kwh-etii day before e is most = record {
-      priced = λ price. under price (Etii day) e ∙ share-etii price (contract .kind) bill (bill .kwh) (ok .days) day ∙ rw (sym is) (omega arith);
+      priced = λ price. under price (Etii day) e ∙ share-etii price (terms .kind) bill (bill .kwh) (ok .days) day ∙ rw (sym is) (omega arith);
       whole = omega arith;
     }
 
-    pub kwh-qhs : (day before new : ℕ) → contract .certificate ≡ Qhs day → before ≡ kwhBefore bill (bill .kwh) day → new ≡ withNewMinimum (contract .kind) bill (bill .kwh) day
-        → KwhOf contract bill (found before 0 (bill .kwh - before - new) new)
+    pub kwh-qhs : (day before new : ℕ) → terms .certificate ≡ Qhs day → before ≡ kwhBefore bill (bill .kwh) day → new ≡ withNewMinimum (terms .kind) bill (bill .kwh) day
+        → KwhOf terms bill (found before 0 (bill .kwh - before - new) new)
     kwh-qhs day before new e is is-new = record {
-      priced = λ price. under price (Qhs day) e ∙ share-qhs price (contract .kind) bill (bill .kwh) (ok .days) day ∙ rw (sym is, sym is-new) (omega arith);
-      whole = omega (arith, is, is-new, new-most (contract .kind) bill (bill .kwh) day (ok .days));
+      priced = λ price. under price (Qhs day) e ∙ share-qhs price (terms .kind) bill (bill .kwh) (ok .days) day ∙ rw (sym is, sym is-new) (omega arith);
+      whole = omega (arith, is, is-new, new-most (terms .kind) bill (bill .kwh) day (ok .days));
     }
 
-  pub kwh-shares : hasShares bill ≡ true → (new : ℕ) → new ≡ withNewMinimum (contract .kind) bill (bill .qhs) 0
-      → KwhOf contract bill (found (bill .kwh - (bill .etii + bill .qhs)) (bill .etii) (bill .qhs - new) new)
-  kwh-shares some new is = record { priced = priced; whole = omega (arith, ok .shares, is, new-most (contract .kind) bill (bill .qhs) 0 (ok .days)) }
+  pub kwh-shares : hasShares bill ≡ true → (new : ℕ) → new ≡ withNewMinimum (terms .kind) bill (bill .qhs) 0
+      → KwhOf terms bill (found (bill .kwh - (bill .etii + bill .qhs)) (bill .etii) (bill .qhs - new) new)
+  kwh-shares some new is = record { priced = priced; whole = omega (arith, ok .shares, is, new-most (terms .kind) bill (bill .qhs) 0 (ok .days)) }
     where
       from-0 : (k : ℕ) → kwhBefore bill k 0 ≡ 0
       from-0 k = before-first k (daysOf bill) (bill .first) 0 (omega arith)
 
-      priced : (price : Class → ℕ) → billAt price contract bill
+      priced : (price : Class → ℕ) → billAt price terms bill
           ≡ (bill .kwh - (bill .etii + bill .qhs)) * price class.Baseline + bill .etii * price class.Etii + (bill .qhs - new) * price class.QhsOld + new * price class.QhsNew
       priced price =
           let etii : bill .etii - 0 ≡ bill .etii = omega arith in
           let old : bill .qhs - 0 - new ≡ bill .qhs - new = omega arith in
-          bill-with price contract bill some
+          bill-with price terms bill some
           ∙ rw (
-            share-none price (contract .kind) bill (bill .kwh - (bill .etii + bill .qhs)) (ok .days),
-            share-etii price (contract .kind) bill (bill .etii) (ok .days) 0,
-            share-qhs price (contract .kind) bill (bill .qhs) (ok .days) 0,
+            share-none price (terms .kind) bill (bill .kwh - (bill .etii + bill .qhs)) (ok .days),
+            share-etii price (terms .kind) bill (bill .etii) (ok .days) 0,
+            share-qhs price (terms .kind) bill (bill .qhs) (ok .days) 0,
             from-0 (bill .etii),
             from-0 (bill .qhs),
             sym is,

@@ -10,19 +10,19 @@ use Rattle.rates.specs.declared.Kind.the-variants.{Fixed, Variable, Flexible, I
 use Rattle.rates.specs.declared.Certificate.{Certificate}
 use Rattle.rates.specs.declared.Certificate.the-variants.{None}
 use Rattle.rates.specs.declared.Certificate.the-variants as certificate
-use Rattle.rates.specs.declared.Contract.{Contract}
+use Rattle.rates.specs.declared.Terms.{Terms}
 use Rattle.amounts.specs.declared.Bill.{Bill}
 use Rattle.amounts.specs.Amounts.{amount, cap, rate}
 
--- a row of the tables: a contract; a bill's first and last day, kWh, ETII share, QHS share, R and S; its rate, amount and cap
+-- a row of the tables: the terms that a bill takes; its first and last day, kWh, ETII share, QHS share, R and S; its rate, amount and cap
 pub record AmountExample : Type 0 where
-  pub contract : Contract
+  pub terms : Terms
   pub bill : Bill
   pub figures : List ℕ
 
 abbrev pub amountExample : Fuel → Kind → Certificate → (first last kwh etii qhs R S rate amount cap : ℕ) → AmountExample
 amountExample fuel kind certificate first last kwh etii qhs R S rate amount cap = record {
-  contract = record { fuel = fuel; kind = kind; certificate = certificate };
+  terms = record { fuel = fuel; kind = kind; certificate = certificate };
   bill = record { contract = 0; first = first; last = last; kwh = kwh; etii = etii; qhs = qhs; reference = R; supply = S };
   figures = rate ∷ amount ∷ cap ∷ [];
 }
@@ -103,7 +103,7 @@ stretchExamples =
 
 -- the examples have the rates, amounts and caps given
 abbrev pub FiguresGiven : List AmountExample → Type 0
-FiguresGiven es = map (λ e. rate (e .contract) (e .bill) ∷ amount (e .contract) (e .bill) ∷ cap (e .contract) (e .bill) ∷ []) es ≡ map (λ e. e .figures) es
+FiguresGiven es = map (λ e. rate (e .terms) (e .bill) ∷ amount (e .terms) (e .bill) ∷ cap (e .terms) (e .bill) ∷ []) es ≡ map (λ e. e .figures) es
 
 pub record AmountExamples : Type 0 where
   pub of-shares : FiguresGiven sharesExamples

@@ -9,7 +9,7 @@ use Rattle.basics.specs.Lists.{total}
 use Rattle.rates.specs.declared.Kind.{Kind}
 use Rattle.rates.specs.declared.Certificate.{Certificate}
 use Rattle.rates.specs.declared.Certificate.the-variants.{None, Etii, Qhs}
-use Rattle.rates.specs.declared.Contract.{Contract}
+use Rattle.rates.specs.declared.Terms.{Terms}
 use Rattle.rates.specs.declared.Class.{Class}
 use Rattle.rates.specs.Rates.{classRate, classCap, certifiedClass}
 use Rattle.amounts.specs.declared.Bill.{Bill}
@@ -31,14 +31,14 @@ share kwh certificate = record { kwh = kwh; certificate = certificate }
 unfoldable pub hasShares : Bill → Bool
 hasShares bill = not (eqb (bill .etii) 0) || not (eqb (bill .qhs) 0)
 
--- then "the certificate is set aside"; else the rest is all of the bill, under its contract's certificate
-unfoldable pub restCertificate : Contract → Bill → Certificate
-restCertificate contract bill = cond (hasShares bill) None (contract .certificate)
+-- then "the certificate is set aside"; else the rest is all of the bill, under the terms' certificate
+unfoldable pub restCertificate : Terms → Bill → Certificate
+restCertificate terms bill = cond (hasShares bill) None (terms .certificate)
 
 -- "each share is rated by its class", on every day: the rest, the ETII share and the QHS share, these two as from day 0 on
-unfoldable pub shares : Contract → Bill → List Share
-shares contract bill =
-    share (bill .kwh - (bill .etii + bill .qhs)) (restCertificate contract bill)
+unfoldable pub shares : Terms → Bill → List Share
+shares terms bill =
+    share (bill .kwh - (bill .etii + bill .qhs)) (restCertificate terms bill)
     ∷ share (bill .etii) (Etii 0)
     ∷ share (bill .qhs) (Qhs 0)
     ∷ []
@@ -48,26 +48,26 @@ unfoldable pub shareAt : (price : Class → ℕ) → Kind → Bill → Share →
 shareAt price kind bill s = byDay price (s .kwh) (daysOf bill) (λ j. certifiedClass (s .certificate) kind (bill .first + j))
 
 -- a bill at a price of each class: "The shares of Paper 1 are each spread this way"
-unfoldable pub billAt : (price : Class → ℕ) → Contract → Bill → ℕ
-billAt price contract bill = total (shareAt price (contract .kind) bill) (shares contract bill)
+unfoldable pub billAt : (price : Class → ℕ) → Terms → Bill → ℕ
+billAt price terms bill = total (shareAt price (terms .kind) bill) (shares terms bill)
 
 -- a class's rate and cap at a bill's prices: "R is the row's one R throughout"
-abbrev pub rateOf : Contract → Bill → Class → ℕ
-rateOf contract bill class = classRate (contract .fuel) class (bill .reference) (bill .supply)
+abbrev pub rateOf : Terms → Bill → Class → ℕ
+rateOf terms bill class = classRate (terms .fuel) class (bill .reference) (bill .supply)
 
-abbrev pub capOf : Contract → Bill → Class → ℕ
-capOf contract bill class = classCap (contract .fuel) class (bill .supply)
+abbrev pub capOf : Terms → Bill → Class → ℕ
+capOf terms bill class = classCap (terms .fuel) class (bill .supply)
 
 -- a bill's amount and its cap: each day's kWh times the rate, and the cap, of the day's class
-unfoldable pub amount : Contract → Bill → ℕ
-amount contract bill = billAt (rateOf contract bill) contract bill
+unfoldable pub amount : Terms → Bill → ℕ
+amount terms bill = billAt (rateOf terms bill) terms bill
 
-unfoldable pub cap : Contract → Bill → ℕ
-cap contract bill = billAt (capOf contract bill) contract bill
+unfoldable pub cap : Terms → Bill → ℕ
+cap terms bill = billAt (capOf terms bill) terms bill
 
 -- "The rate answered is that of the first day", of the rest
-unfoldable pub rate : Contract → Bill → ℕ
-rate contract bill = rateOf contract bill (certifiedClass (restCertificate contract bill) (contract .kind) (bill .first))
+unfoldable pub rate : Terms → Bill → ℕ
+rate terms bill = rateOf terms bill (certifiedClass (restCertificate terms bill) (terms .kind) (bill .first))
 
 -- a bill whose days, kWh, shares and S keep the ranges of a row, so that its amount fits
 pub record Rateable (bill : Bill) : Type 0 where

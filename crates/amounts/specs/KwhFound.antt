@@ -4,7 +4,7 @@ use mathlib.Core.Bool.{cond}
 use Prim.Native.Nat.{ℕ, _+_, _-_, _*_, _≤_, max}
 use Rattle.limits.specs.Limits.{newMinimumDay, mostKwhStored}
 use Rattle.rates.specs.declared.Kind.{Kind}
-use Rattle.rates.specs.declared.Contract.{Contract}
+use Rattle.rates.specs.declared.Terms.{Terms}
 use Rattle.rates.specs.declared.Class.{Class}
 use Rattle.rates.specs.declared.Class.the-variants.{Baseline, Etii, QhsOld, QhsNew}
 use Rattle.rates.specs.Rates.{enteredEarly}
@@ -32,6 +32,6 @@ abbrev pub atPrices : (price : Class → ℕ) → KwhByClass → ℕ
 atPrices price k = k .baseline * price Baseline + k .etii * price Etii + k .old * price QhsOld + k .new * price QhsNew
 
 -- these are a bill's kWh in each class: at whatever prices they come to what the bill does
-pub record KwhOf (contract : Contract) (bill : Bill) (k : KwhByClass) : Type 0 where
-  pub priced : (price : Class → ℕ) → billAt price contract bill ≡ atPrices price k
+pub record KwhOf (terms : Terms) (bill : Bill) (k : KwhByClass) : Type 0 where
+  pub priced : (price : Class → ℕ) → billAt price terms bill ≡ atPrices price k
   pub whole : k .baseline + k .etii + k .old + k .new ≡ bill .kwh

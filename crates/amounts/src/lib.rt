@@ -2,7 +2,7 @@
 use limits::NEW_MINIMUM_DAY;
 use rates::Certificate;
 use rates::Class;
-use rates::Contract;
+use rates::Terms;
 use rates::Fuel;
 use rates::Kind;
 use rates::class_of;
@@ -49,16 +49,16 @@ pub fn has_shares(bill: Bill) -> bool
 }
 
 // The rate that a bill answers, in ticks: that of its first day, and with shares the baseline one.
-pub fn rate(contract: Contract, bill: Bill) -> u64
-    ensures { λ r. ⌜ r ≡ rate contract bill ⌝ }
+pub fn rate(terms: Terms, bill: Bill) -> u64
+    ensures { λ r. ⌜ r ≡ rate terms bill ⌝ }
 {
-    let fuel = contract.fuel;
+    let fuel = terms.fuel;
     if has_shares(bill) {
         return class_rate(fuel, Class::Baseline, bill.reference, bill.supply);
     }
     class_rate(
         fuel,
-        class_of(contract, bill.first),
+        class_of(terms, bill.first),
         bill.reference,
         bill.supply,
     )
@@ -90,13 +90,13 @@ fn with_new_minimum(kind: Kind, bill: Bill, kwh: u64, day: u32) -> u64
     kwh - kwh_before(bill, kwh, greater(day, NEW_MINIMUM_DAY))
 }
 
-// The kWh in each class of a bill without shares: all of it is under its contract's certificate.
-fn whole_by_class(contract: Contract, bill: Bill) -> KwhByClass
+// The kWh in each class of a bill without shares: all of it is under the terms' certificate.
+fn whole_by_class(terms: Terms, bill: Bill) -> KwhByClass
     requires { ⌜ Rateable bill × (hasShares bill ≡ false) ⌝ }
-    ensures { λ r. ⌜ KwhOf contract bill r ⌝ }
+    ensures { λ r. ⌜ KwhOf terms bill r ⌝ }
 {
-    let certificate = contract.certificate;
-    let kind = contract.kind;
+    let certificate = terms.certificate;
+    let kind = terms.kind;
     let kwh = bill.kwh as u64;
     match certificate {
         Certificate::None => KwhByClass {
@@ -128,11 +128,11 @@ fn whole_by_class(contract: Contract, bill: Bill) -> KwhByClass
 }
 
 // The kWh in each class of a bill with shares: the rest, which is baseline, the ETII share, and the QHS share, whose minimum may change inside.
-fn shares_by_class(contract: Contract, bill: Bill) -> KwhByClass
+fn shares_by_class(terms: Terms, bill: Bill) -> KwhByClass
     requires { ⌜ Rateable bill × (hasShares bill ≡ true) ⌝ }
-    ensures { λ r. ⌜ KwhOf contract bill r ⌝ }
+    ensures { λ r. ⌜ KwhOf terms bill r ⌝ }
 {
-    let kind = contract.kind;
+    let kind = terms.kind;
     let qhs = bill.qhs as u64;
     let new = with_new_minimum(kind, bill, qhs, 0);
     KwhByClass {
@@ -155,11 +155,11 @@ fn at_rate(fuel: Fuel, bill: Bill, class: Class, kwh: u64) -> u64
 }
 
 // The amount of a bill, of which the kWh in each class are known: each at the rate of its class.
-fn at_rates(contract: Contract, bill: Bill, kwh: KwhByClass) -> u64
-    requires { ⌜ Rateable bill × KwhOf contract bill kwh ⌝ }
-    ensures { λ r. ⌜ r ≡ amount contract bill ⌝ }
+fn at_rates(terms: Terms, bill: Bill, kwh: KwhByClass) -> u64
+    requires { ⌜ Rateable bill × KwhOf terms bill kwh ⌝ }
+    ensures { λ r. ⌜ r ≡ amount terms bill ⌝ }
 {
-    let fuel = contract.fuel;
+    let fuel = terms.fuel;
     let baseline = at_rate(fuel, bill, Class::Baseline, kwh.baseline);
     let etii = at_rate(fuel, bill, Class::Etii, kwh.etii);
     let old = at_rate(fuel, bill, Class::QhsOld, kwh.old);
@@ -168,32 +168,32 @@ fn at_rates(contract: Contract, bill: Bill, kwh: KwhByClass) -> u64
 }
 
 // A bill's amount, in ticks.
-pub fn amount(contract: Contract, bill: Bill) -> u64
+pub fn amount(terms: Terms, bill: Bill) -> u64
     requires { ⌜ Rateable bill ⌝ }
-    ensures { λ r. ⌜ r ≡ amount contract bill ⌝ }
+    ensures { λ r. ⌜ r ≡ amount terms bill ⌝ }
 {
     if has_shares(bill) {
-        return at_rates(contract, bill, shares_by_class(contract, bill));
+        return at_rates(terms, bill, shares_by_class(terms, bill));
     }
-    at_rates(contract, bill, whole_by_class(contract, bill))
+    at_rates(terms, bill, whole_by_class(terms, bill))
 }
 
 // The amount of a bill without shares. A certificate asks it of such rows of its contract and is its one caller: LLVM inlines a function
 // with one caller whatever its size, and `amount` has several.
-pub fn whole_amount(contract: Contract, bill: Bill) -> u64
+pub fn whole_amount(terms: Terms, bill: Bill) -> u64
     requires { ⌜ Rateable bill × (hasShares bill ≡ false) ⌝ }
-    ensures { λ r. ⌜ r ≡ amount contract bill ⌝ }
+    ensures { λ r. ⌜ r ≡ amount terms bill ⌝ }
 {
-    at_rates(contract, bill, whole_by_class(contract, bill))
+    at_rates(terms, bill, whole_by_class(terms, bill))
 }
 
 // Whether a bill's amount is the one given. The check asks it of every row and is its one caller, too.
-pub fn is_amount(contract: Contract, bill: Bill, given: u64) -> bool
+pub fn is_amount(terms: Terms, bill: Bill, given: u64) -> bool
     requires { ⌜ Rateable bill ⌝ }
-    ensures { λ r. ⌜ r ≡ eqb given (amount contract bill) ⌝ }
+    ensures { λ r. ⌜ r ≡ eqb given (amount terms bill) ⌝ }
 {
     if has_shares(bill) {
-        return given == at_rates(contract, bill, shares_by_class(contract, bill));
+        return given == at_rates(terms, bill, shares_by_class(terms, bill));
     }
-    given == at_rates(contract, bill, whole_by_class(contract, bill))
+    given == at_rates(terms, bill, whole_by_class(terms, bill))
 }

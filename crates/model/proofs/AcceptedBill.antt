@@ -1,6 +1,6 @@
 -- The ranges of what an accepted bill or rebill brings, and of the numbers that pass the paper's tests. Assumes nothing.
-use mathlib.Core.Path.{_≡_}
-use mathlib.Core.Bool.{Bool, true, false, not, cond, _||_}
+use mathlib.Core.Path.{_≡_, refl}
+use mathlib.Core.Bool.{Bool, true, false, not, cond, _&&_, _||_}
 use mathlib.Core.List.{List, [], _∷_}
 use Prim.Native.Nat.{ℕ, zero, suc, _<_, _≤_, zero-le}
 use native.Mathlib.Omega.{arith}
@@ -13,9 +13,10 @@ use Rattle.basics.proofs.Lists.{none-all}
 use Rattle.rates.specs.declared.Kind.{Kind}
 use Rattle.rates.specs.declared.Kind.the-variants.{Fixed, Variable, Flexible, Index}
 use Rattle.rates.specs.declared.Contract.{Contract}
+use Rattle.rates.specs.TermsTaken.{kindTaken, termsFor}
 use Rattle.model.specs.Book.{bookIndex, referenceOf, reference}
 use Rattle.model.specs.declared.Request.{Request}
-use Rattle.model.specs.PresentRules.{badBook, badKind, badDays, badEffective, badSpan, badAmounts}
+use Rattle.model.specs.PresentRules.{badBook, badKind, badDays, badEffective, badAmendmentDays, badAmendment, badSpan, badAmounts}
 
 -- ---- numbers that pass
 
@@ -44,6 +45,26 @@ effective-low class day e = go (eqb class 0) e
     go : (c : Bool) → cond c (not (eqb day 0)) (ltb lastDay day || cond (eqb class 2) (ltb day firstQhsDay) (ltb day firstSchemeDay)) ≡ false → day ≤ lastDay
     go true h = let z : day ≡ 0 = eq-yes day 0 (not-no _ h) in omega arith
     go false h = lt-no lastDay day (or-no-left (ltb lastDay day) _ h)
+
+pub amendment-low : (kind flag end fix entry : ℕ) → badAmendment kind flag end fix entry ≡ false → (flag ≤ 1) × ((end ≤ lastDay) × ((fix ≤ lastDay) × (entry ≤ lastDay)))
+unfolding badAmendment badAmendmentDays
+amendment-low kind flag end fix entry e = go (eqb flag 0) refl e
+  where
+    go : (b : Bool) → eqb flag 0 ≡ b → cond b (not (eqb end 0 && (eqb fix 0 && eqb entry 0))) (ltb 1 flag || (not (eqb kind 0) || (not (leb firstSchemeDay end && leb end lastDay) || (ltb lastDay fix || ltb lastDay entry)))) ≡ false
+        → (flag ≤ 1) × ((end ≤ lastDay) × ((fix ≤ lastDay) × (entry ≤ lastDay)))
+    go true z h =
+        let zeros = not-no _ h in
+        let days = and-right (eqb end 0) _ zeros in
+        let none : flag ≡ 0 = eq-yes flag 0 z in
+        let end-0 : end ≡ 0 = eq-yes end 0 (and-left (eqb end 0) _ zeros) in
+        let fix-0 : fix ≡ 0 = eq-yes fix 0 (and-left (eqb fix 0) _ days) in
+        let entry-0 : entry ≡ 0 = eq-yes entry 0 (and-right (eqb fix 0) _ days) in
+        (omega arith, (omega arith, (omega arith, omega arith)))
+    go false z h =
+        let days = or-no-right (not (eqb kind 0)) _ (or-no-right (ltb 1 flag) _ h) in
+        let ends = not-no _ (or-no-left _ _ days) in
+        let pair = or-no-right (not (leb firstSchemeDay end && leb end lastDay)) _ days in
+        (lt-no 1 flag (or-no-left (ltb 1 flag) _ h), (le-yes end lastDay (and-right (leb firstSchemeDay end) _ ends), (lt-no lastDay fix (or-no-left (ltb lastDay fix) _ pair), lt-no lastDay entry (or-no-right (ltb lastDay fix) _ pair))))
 
 book-low : (book : List ℕ) (i : ℕ) → badBook book ≡ false → getD book i 0 ≤ highestPrice
 unfolding badBook
@@ -76,6 +97,8 @@ module _ (k : Contract) (q : Request) (book : List ℕ) (whole : badBook book �
   unfolding badAmounts
   wap-low = lt-no highestPrice (q .wap) (or-no-left _ _ (or-no-right (ltb highestPrice (q .supply)) _ (or-no-right (ltb mostKwhGiven (q .kwh)) _ amounts)))
 
-  pub price-low : reference k (q .first) (q .wap) book ≤ highestPrice
-  unfolding reference
-  price-low = reference-low (k .kind) (q .wap) _ highestPrice wap-low (book-low book (bookIndex (k .fuel) (k .kind) (q .first)) whole)
+  pub price-low : reference (termsFor k (q .first)) (q .first) (q .wap) book ≤ highestPrice
+  unfolding reference termsFor
+  price-low =
+      let kind = kindTaken (k .amendment) (k .kind) (q .first) in
+      reference-low kind (q .wap) _ highestPrice wap-low (book-low book (bookIndex (k .fuel) kind (q .first)) whole)

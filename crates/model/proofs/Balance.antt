@@ -79,6 +79,7 @@ module _ (R : Rules) (ok : RulesLaws R) where
   act-floor l (Call.Claim with book) p rest e = refl
   act-floor l (Call.Report c with book) p rest e = cc
   act-floor l (Call.Total with book) p rest e = cc
+  act-floor l (Call.Amend c end fix entry with book) p rest e = cc
 
   -- an accepted claim leaves the pence at the floor, and no other call answers as it does
   claim-floor : (l : Ledger) (c : CallWithBook) (p : ℤ) (rest : ℕ) → answer R l c ≡ Claimed p rest → step R l c .pence ≡ dueL (step R l c) / ticksPerPenny

@@ -1,20 +1,22 @@
 -- The numbers of a contract that keeps the ranges are those that it was made from. Assumes nothing.
 use mathlib.Core.Path.{_≡_, refl, sym}
 use mathlib.Core.Logic.{_≢_}
-use mathlib.Core.Bool.{Bool, true, false, not, cond}
+use mathlib.Core.Bool.{Bool, true, false, not, cond, _&&_, _||_, true≢false}
 use Prim.Native.Nat.{ℕ, _≤_}
 use native.Mathlib.Omega.{arith}
 use lib.Dec.{ltb, eqb}
 use Rattle.limits.specs.Limits.{lastDay}
-use Rattle.basics.proofs.Tests.{either, eq-yes, eq-no, not-no, and-left, and-right, and-no, or-no-right, no-not}
+use Rattle.basics.proofs.Tests.{either, eq-yes, eq-no, not-no, and-left, and-right, and-no, or-no-left, or-no-right, no-not, lt-no}
 use Rattle.rates.specs.declared.Fuel.{Fuel}
 use Rattle.rates.specs.declared.Fuel.the-variants.{Electricity, Gas}
 use Rattle.rates.specs.declared.Kind.{Kind}
 use Rattle.rates.specs.declared.Kind.the-variants.{Fixed, Variable, Flexible, Index}
 use Rattle.rates.specs.declared.Certificate.{Certificate}
 use Rattle.rates.specs.declared.Certificate.the-variants.{None, Etii, Qhs}
-use Rattle.model.specs.Codes.{fuelOf, fuelCode, kindOf, kindCode, priceFixDay, entryDay, certificateOf, classCode, effectiveDay}
-use Rattle.model.specs.PresentRules.{badDays, badEffective}
+use Rattle.rates.specs.declared.Amendment.{Amendment}
+use Rattle.rates.specs.declared.Amendment.the-variants.{Unamended, Amended}
+use Rattle.model.specs.Codes.{fuelOf, fuelCode, kindOf, kindCode, priceFixDay, entryDay, certificateOf, classCode, effectiveDay, isFixed, amendmentOf, amendmentFlag, originalEnd, amendedPriceFixDay, amendedEntryDay, isAmended}
+use Rattle.model.specs.PresentRules.{badDays, badEffective, badAmendmentDays, badAmendment}
 
 -- ---- from numbers and back
 
@@ -67,6 +69,33 @@ class-day class effective h b = either (eqb class 1) (λ e. rw e) (λ e. either 
         let z : class ≡ 0 = omega arith in
         eq-yes effective 0 (not-no _ (rw z at b))
 
+-- an amendment's four numbers
+pub record AmendmentNumbers (a : Amendment) (flag end fix entry : ℕ) : Type 0 where
+  pub flags : amendmentFlag a ≡ flag
+  pub ends : originalEnd a ≡ end
+  pub fixes : amendedPriceFixDay a ≡ fix
+  pub enters : amendedEntryDay a ≡ entry
+
+pub amendment-numbers : (kind flag end fix entry : ℕ) → badAmendment kind flag end fix entry ≡ false → AmendmentNumbers (amendmentOf flag end fix entry) flag end fix entry
+unfolding badAmendment
+amendment-numbers kind flag end fix entry h = go (eqb flag 0) refl h
+  where
+    go : (b : Bool) → eqb flag 0 ≡ b → cond b (not (eqb end 0 && (eqb fix 0 && eqb entry 0))) (ltb 1 flag || (not (eqb kind 0) || badAmendmentDays end fix entry)) ≡ false
+        → AmendmentNumbers (cond b Unamended (Amended end fix entry)) flag end fix entry
+    go true e h =
+        let zeros = not-no _ h in
+        let days = and-right (eqb end 0) _ zeros in
+        record {
+          flags = sym (eq-yes flag 0 e);
+          ends = sym (eq-yes end 0 (and-left (eqb end 0) _ zeros));
+          fixes = sym (eq-yes fix 0 (and-left (eqb fix 0) _ days));
+          enters = sym (eq-yes entry 0 (and-right (eqb fix 0) _ days));
+        }
+    go false e h =
+        let some : flag ≢ 0 = eq-no flag 0 e in
+        let low : flag ≤ 1 = lt-no 1 flag (or-no-left (ltb 1 flag) _ h) in
+        record { flags = omega arith; ends = refl; fixes = refl; enters = refl }
+
 -- ---- from values and back
 
 pub fuel-of-code : (fuel : Fuel) → fuelOf (fuelCode fuel) ≡ fuel
@@ -83,3 +112,19 @@ pub certificate-of-code : (certificate : Certificate) → certificateOf (classCo
 certificate-of-code None = refl
 certificate-of-code (Etii effective) = refl
 certificate-of-code (Qhs effective) = refl
+
+pub amendment-of-numbers : (amendment : Amendment) → amendmentOf (amendmentFlag amendment) (originalEnd amendment) (amendedPriceFixDay amendment) (amendedEntryDay amendment) ≡ amendment
+amendment-of-numbers Unamended = refl
+amendment-of-numbers (Amended end fix entry) = refl
+
+-- ---- fixed kinds, and contracts that aren't amended
+
+pub fixed-code : (kind : Kind) → isFixed kind ≡ true → kindCode kind ≡ 0
+fixed-code (Fixed fix entry) e = refl
+fixed-code Variable e = absurd (true≢false (sym e))
+fixed-code Flexible e = absurd (true≢false (sym e))
+fixed-code Index e = absurd (true≢false (sym e))
+
+pub not-amended : (amendment : Amendment) → isAmended amendment ≡ false → amendment ≡ Unamended
+not-amended Unamended e = refl
+not-amended (Amended end fix entry) e = absurd (true≢false e)

@@ -40,6 +40,7 @@ module _ (R : Rules) (ok : RulesLaws R) where
   law-due l s (Call.Claim with book) r e = sym (+ℤ-idr _)
   law-due l s (Call.Report c with book) r e = sym (+ℤ-idr _)
   law-due l s (Call.Total with book) r e = sym (+ℤ-idr _)
+  law-due l s (Call.Amend c end fix entry with book) r e = sym (+ℤ-idr _)
 
   pub law-pence : (l : Ledger) (c : CallWithBook) → pos (accept R l c .next .pence) ≡ pos (l .pence) +ℤ claimPence (accept R l c .answers)
   unfolding accept
@@ -51,3 +52,4 @@ module _ (R : Rules) (ok : RulesLaws R) where
   law-pence l (Call.Claim with book) = reset _ _
   law-pence l (Call.Report c with book) = sym (+ℤ-idr _)
   law-pence l (Call.Total with book) = sym (+ℤ-idr _)
+  law-pence l (Call.Amend c end fix entry with book) = sym (+ℤ-idr _)

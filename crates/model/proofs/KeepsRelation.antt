@@ -7,21 +7,21 @@ use Prim.Native.Nat.{ℕ, suc, _≤_}
 use native.Mathlib.Omega.{arith}
 use lib.Dec.{eqb}
 use Rattle.basics.specs.Lists.{All, total, count}
-use Rattle.basics.proofs.Tests.{either, and-left, and-right, and-yes, yes-le, eq-yes, yes-eq, eq-no, no-eq}
-use Rattle.basics.proofs.Lists.{all-map, total-all, total-cong, total-mono, total-split, total-map}
+use Rattle.basics.proofs.Tests.{either, and-left, and-right, and-yes, and-no, yes-le, lt-no, eq-yes, yes-eq, eq-no, no-eq}
+use Rattle.basics.proofs.Lists.{all-map, all-both, none-all, total-all, total-cong, total-mono, total-split, total-map}
 use Rattle.rates.specs.declared.Contract.{Contract}
 use Rattle.amounts.specs.declared.Bill.{Bill}
 use Rattle.model.specs.declared.Row.{Row}
-use Rattle.model.specs.Codes.{opening, certify}
+use Rattle.model.specs.Codes.{opening, certify, amend}
 use Rattle.model.specs.Contracts.{Contracts, contractAt, isOpen, putContract}
 use Rattle.model.specs.declared.Call.{Call}
 use Rattle.model.specs.declared.Request.{Request}
-use Rattle.model.specs.Calls.{CallWithBook, named, sharing, requestedBill, _with_}
+use Rattle.model.specs.Calls.{CallWithBook, View, named, sharing, endsAfter, requestedBill, _with_}
 use Rattle.model.specs.Rules.{Rules, refusal, partOfDue, standingRow}
-use Rattle.model.specs.Ledger.{Ledger, remove, replace, priced, rerated, accept as acceptL}
-use Rattle.model.specs.Sheet.{Sheet, strikeOut, inPlaceOf, view as viewS, accept as acceptS}
+use Rattle.model.specs.Ledger.{Ledger, remove, replace, priced, rerated, withContract as withContractL, accept as acceptL}
+use Rattle.model.specs.Sheet.{Sheet, strikeOut, inPlaceOf, withContract as withContractS, view as viewS, accept as acceptS}
 use Rattle.model.proofs.RowSums.{total-strike, total-swap, total-insert, total-remove, total-replace}
-use Rattle.model.proofs.RulesLaws.{Taken, Certified, RulesLaws}
+use Rattle.model.proofs.RulesLaws.{Taken, Certified, Amended, RulesLaws}
 use Rattle.model.proofs.Relation.{Related, BillOk, once-row}
 
 pub named-contract : (c first : ℕ) (b : Bill) → named c first b ≡ true → b .contract ≡ c
@@ -117,6 +117,36 @@ module _ (R : Rules) (cs : Contracts) (c : ℕ) (k : Contract) (b : Bill) where
       (λ e. rw (e, part-own (eq-yes (b .contract) c e)))
       (λ e. rw (e, part-other (eq-no (b .contract) c e)))
 
+-- a bill keeps its ranges and its part under other contracts
+pub record KeptUnder (R : Rules) (cs cs′ : Contracts) (b : Bill) : Type 0 where
+  pub ok : BillOk R cs′ b
+  pub part : partOfDue R cs′ b ≡ partOfDue R cs b
+
+-- one of another contract than the one that is changed
+pub kept-other : (R : Rules) (cs : Contracts) (c : ℕ) (k : Contract) (b : Bill) → b .contract ≢ c → BillOk R cs b → KeptUnder R cs (putContract cs c k) b
+kept-other R cs c k b n q = record { ok = bill-other R cs c k b n q; part = part-other R cs c k b n }
+
+-- one that doesn't end after the original end of an amendment
+pub kept-amended : (R : Rules) (v : View) (c end fix entry : ℕ) → Amended R v c end fix entry → (b : Bill) → endsAfter c end b ≡ false → BillOk R (v .contracts) b
+    → KeptUnder R (v .contracts) (putContract (v .contracts) c (amend (contractAt (v .contracts) c) end fix entry)) b
+unfolding endsAfter partOfDue
+kept-amended R v c end fix entry a b ended q = either (eqb (b .contract) c)
+    (λ e.
+    let p : b .contract ≡ c = eq-yes (b .contract) c e in
+    let by-end : b .last ≤ end = lt-no end (b .last) (and-no (eqb (b .contract) c) _ ended e) in
+    let before = subst (λ (d : ℕ). R .billOk (contractAt (v .contracts) d) b ≡ true) p (q .ranges) in
+    record {
+      ok = record {
+        isOpened = rw p (open-same (v .contracts) c k′);
+        ranges = subst (λ (k : Contract). R .billOk k b ≡ true) (sym (ap (contractAt (putContract (v .contracts) c k′)) p ∙ at-same (v .contracts) c k′)) (a .bill-ranges b by-end before);
+      };
+      part = part-own R (v .contracts) c k′ b p ∙ a .bill-amount b by-end before ∙ ap (λ (d : ℕ). R .amount (contractAt (v .contracts) d) b) (sym p);
+    })
+    (λ e. kept-other R (v .contracts) c k′ b (eq-no (b .contract) c e) q)
+  where
+    k′ : Contract
+    k′ = amend (contractAt (v .contracts) c) end fix entry
+
 pub bill-certified : (R : Rules) → RulesLaws R → (cs : Contracts) (c class effective : ℕ) (b : Bill) → BillOk R cs b → BillOk R (putContract cs c (certify (contractAt cs c) class effective)) b
 bill-certified R ok cs c class effective b q = either (eqb (b .contract) c)
     (λ e. let p : b .contract ≡ c = eq-yes (b .contract) c e in record {
@@ -193,22 +223,26 @@ module _ (R : Rules) (ok : RulesLaws R) where
       t : Taken R (viewS s) b book
       t = ok .rebills (viewS s) b book e
 
-  -- the contract wasn't open, so no bill of it stands: nobody's row is another
-  keep-open : (l : Ledger) (s : Sheet) (c fuel kind fix entry : ℕ) (book : List ℕ) → Related R l s → refusal R (viewS s) (Call.Open c fuel kind fix entry with book) ≡ 0 → Related R (acceptL R l (Call.Open c fuel kind fix entry with book) .next) (acceptS s (Call.Open c fuel kind fix entry with book))
-  unfolding acceptL acceptS viewS
-  keep-open l s c fuel kind fix entry book r e = record {
+  -- a contract put under a number so that every standing bill keeps its part: nobody's row is another
+  keep-contract : (l : Ledger) (s : Sheet) (c : ℕ) (k : Contract) → Related R l s → R .contractOk (s .territory) k ≡ true
+      → All (KeptUnder R (s .contracts) (putContract (s .contracts) c k)) (s .bills) → Related R (withContractL l c k) (withContractS s c k)
+  keep-contract l s c k r ranges kept = record {
     territory = r .territory;
     contracts = rw (r .contracts);
     claims = r .claims;
-    same = λ w. r .same w ∙ total-all _ _ (s .bills) (all-map (BillOk R (s .contracts)) _ (λ b q. ap (λ (n : ℕ). w (record { bill = b; amount = n })) (sym (part-other R (s .contracts) c k′ b (other b q)))) (s .bills) (r .sane));
-    good = contracts-put (λ k. R .contractOk (s .territory) k ≡ true) (s .contracts) c k′ (ok .opens (viewS s) c fuel kind fix entry book e .ranges) (r .good);
-    sane = all-map (BillOk R (s .contracts)) (BillOk R (putContract (s .contracts) c k′)) (λ b q. bill-other R (s .contracts) c k′ b (other b q) q) (s .bills) (r .sane);
+    same = λ w. r .same w ∙ total-all _ _ (s .bills) (all-map _ _ (λ b q. ap (λ (n : ℕ). w (record { bill = b; amount = n })) (sym (q .part))) (s .bills) kept);
+    good = contracts-put (λ j. R .contractOk (s .territory) j ≡ true) (s .contracts) c k ranges (r .good);
+    sane = all-map _ _ (λ b q. q .ok) (s .bills) kept;
     once = r .once;
   }
-    where
-      k′ : Contract
-      k′ = opening fuel kind fix entry
 
+  -- the contract wasn't open, so no bill of it stands
+  keep-open : (l : Ledger) (s : Sheet) (c fuel kind fix entry : ℕ) (book : List ℕ) → Related R l s → refusal R (viewS s) (Call.Open c fuel kind fix entry with book) ≡ 0 → Related R (acceptL R l (Call.Open c fuel kind fix entry with book) .next) (acceptS s (Call.Open c fuel kind fix entry with book))
+  unfolding acceptL acceptS viewS
+  keep-open l s c fuel kind fix entry book r e =
+      keep-contract l s c (opening fuel kind fix entry) r (ok .opens (viewS s) c fuel kind fix entry book e .ranges)
+      (all-map _ _ (λ b q. kept-other R (s .contracts) c (opening fuel kind fix entry) b (other b q) q) (s .bills) (r .sane))
+    where
       other : (b : Bill) → BillOk R (s .contracts) b → b .contract ≢ c
       other b q p = true≢false (sym (rw p at (q .isOpened)) ∙ ok .opens (viewS s) c fuel kind fix entry book e .new)
 
@@ -230,6 +264,23 @@ module _ (R : Rules) (ok : RulesLaws R) where
       o : Certified R (viewS s) c class effective
       o = ok .certs (viewS s) c class effective book e
 
+  -- no bill of the contract ends after the original end
+  pub bills-kept : (l : Ledger) (s : Sheet) (c end fix entry : ℕ) (book : List ℕ) → Related R l s → refusal R (viewS s) (Call.Amend c end fix entry with book) ≡ 0
+      → All (KeptUnder R (s .contracts) (putContract (s .contracts) c (amend (contractAt (s .contracts) c) end fix entry))) (s .bills)
+  unfolding viewS
+  bills-kept l s c end fix entry book r e =
+      let a = ok .amends (viewS s) c end fix entry book e in
+      all-map _ _ (λ b both. kept-amended R (viewS s) c end fix entry a b (both .1) (both .0)) (s .bills)
+      (all-both (BillOk R (s .contracts)) _ (s .bills) (r .sane) (none-all (endsAfter c end) (s .bills) (a .ended)))
+
+  keep-amend : (l : Ledger) (s : Sheet) (c end fix entry : ℕ) (book : List ℕ) → Related R l s → refusal R (viewS s) (Call.Amend c end fix entry with book) ≡ 0 → Related R (acceptL R l (Call.Amend c end fix entry with book) .next) (acceptS s (Call.Amend c end fix entry with book))
+  unfolding acceptL acceptS viewS
+  keep-amend l s c end fix entry book r e =
+      let a = ok .amends (viewS s) c end fix entry book e in
+      let k = amend (contractAt (s .contracts) c) end fix entry in
+      subst (λ (cs : Contracts). Related R (withContractL l c (amend (contractAt cs c) end fix entry)) (withContractS s c k)) (sym (r .contracts))
+      (keep-contract l s c k r (a .ranges (r .good c (a .isOpened))) (bills-kept l s c end fix entry book r e))
+
   pub keep-act : (l : Ledger) (s : Sheet) (c : CallWithBook) → Related R l s → refusal R (viewS s) c ≡ 0 → Related R (acceptL R l c .next) (acceptS s c)
   unfolding acceptL acceptS
   keep-act l s (Call.Open c fuel kind fix entry with book) r e = keep-open l s c fuel kind fix entry book r e
@@ -240,3 +291,4 @@ module _ (R : Rules) (ok : RulesLaws R) where
   keep-act l s (Call.Claim with book) r e = record { territory = r .territory; contracts = r .contracts; claims = ap suc (r .claims); same = r .same; good = r .good; sane = r .sane; once = r .once }
   keep-act l s (Call.Report c with book) r e = r
   keep-act l s (Call.Total with book) r e = r
+  keep-act l s (Call.Amend c end fix entry with book) r e = keep-amend l s c end fix entry book r e

@@ -24,6 +24,7 @@ pub mod BytesBalance
 pub mod HoldsFacts
 pub mod SheetAnswers
 pub mod Postings
+pub mod Amendments
 pub mod Computed
 pub mod Run
 pub mod PriceOfEveryDay

@@ -43,6 +43,7 @@ turned-down v (Call.Cancel c first with book) e = false≢true (fits-first (test
 turned-down v (Call.Claim with book) e = false≢true (fits-first (tests v (Call.Claim with book)) 14 e)
 turned-down v (Call.Report c with book) e = false≢true (fits-first (tests v (Call.Report c with book)) 14 e)
 turned-down v (Call.Total with book) e = false≢true (fits-first (tests v (Call.Total with book)) 14 e)
+turned-down v (Call.Amend c end fix entry with book) e = false≢true (fits-first (tests v (Call.Amend c end fix entry with book)) 14 e)
 
 by-15 : (v : View) (c : CallWithBook) → GivesTwoMonths v c → refusal presentRules v c ≡ 15
 unfolding refusal tests
@@ -54,6 +55,7 @@ by-15 v (Call.Cancel c first with book) t = absurd t
 by-15 v (Call.Claim with book) t = absurd t
 by-15 v (Call.Report c with book) t = absurd t
 by-15 v (Call.Total with book) t = absurd t
+by-15 v (Call.Amend c end fix entry with book) t = absurd t
 
 pub number-fifteen : NumberFifteen
 number-fifteen v c = (turned-down v c, by-15 v c)

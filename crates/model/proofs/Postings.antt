@@ -122,6 +122,7 @@ module _ (R : Rules) (ok : RulesLaws R) where
     posted-customer (Call.Claim with book) e = refl
     posted-customer (Call.Report c with book) e = refl
     posted-customer (Call.Total with book) e = refl
+    posted-customer (Call.Amend c end fix entry with book) e = refl
 
   -- ---- the ledger beside the posting module
 
@@ -141,6 +142,7 @@ module _ (R : Rules) (ok : RulesLaws R) where
     accepted-rate (Call.Claim with book) = refl
     accepted-rate (Call.Report c with book) = refl
     accepted-rate (Call.Total with book) = refl
+    accepted-rate (Call.Amend c end fix entry with book) = refl
 
     accepted-pence : (c : CallWithBook) → claimPence (acceptL R l c .answers) ≡ acceptedPence p c
     unfolding acceptL acceptedPence
@@ -152,6 +154,7 @@ module _ (R : Rules) (ok : RulesLaws R) where
     accepted-pence (Call.Claim with book) = rw (a .posted, a .claimed) (sub-pos (dueL l / ticksPerPenny) (l .pence))
     accepted-pence (Call.Report c with book) = refl
     accepted-pence (Call.Total with book) = refl
+    accepted-pence (Call.Amend c end fix entry with book) = refl
 
     same-figures : (c : CallWithBook) → answeredFigures (answer R l c) ≡ figures R p c
     unfolding answeredFigures answer figures acceptedFigures

@@ -1,11 +1,11 @@
 -- R of an accepted bill or rebill is the price of each day of its span. Assumes nothing.
 use mathlib.Core.Path.{_≡_, refl, sym, ap}
-use mathlib.Core.Bool.{false, not}
+use mathlib.Core.Bool.{Bool, true, false, not, cond}
 use mathlib.Core.List.{List}
 use mathlib.Core.Logic.{_↔_}
 use Prim.Native.Nat.{ℕ, _+_, _*_, _≤_}
 use native.Mathlib.Omega.{arith}
-use lib.Dec.{eqb}
+use lib.Dec.{leb, eqb}
 use lib.ListN.{getD}
 use Rattle.basics.proofs.Tests.{not-no, eq-yes, yes-eq}
 use Rattle.calendar.specs.Days.{schemeMonth}
@@ -13,6 +13,10 @@ use Rattle.calendar.proofs.SchemeMonths.{month-between}
 use Rattle.rates.specs.declared.Fuel.{Fuel}
 use Rattle.rates.specs.declared.Kind.{Kind}
 use Rattle.rates.specs.declared.Kind.the-variants.{Fixed, Variable, Flexible, Index}
+use Rattle.rates.specs.declared.Amendment.{Amendment}
+use Rattle.rates.specs.declared.Amendment.the-variants.{Unamended, Amended}
+use Rattle.rates.specs.TermsTaken.{kindTaken, termsFor, crossesEnd}
+use Rattle.rates.proofs.TermsTaken.{one-kind}
 use Rattle.model.specs.Contracts.{contractAt}
 use Rattle.model.specs.Codes.{fuelCode}
 use Rattle.model.specs.Book.{monthCount, firstVariableEntry, firstIndexEntry, bookIndex, referenceOf, reference}
@@ -43,18 +47,31 @@ module _ (first last : ℕ) (spans : badSpan first last ≡ false) where
   one-entry fuel Flexible = (λ e day h i. refl, λ f. refl)
   one-entry fuel Index = monthly firstIndexEntry
 
--- R is read from the first day's entry, which is that of each day
+-- the kind that a bill takes isn't monthly where its contract's isn't
+taken-months : (amendment : Amendment) (kind : Kind) (day first last : ℕ) → badMonths kind first last ≡ false → badMonths (kindTaken amendment kind day) first last ≡ false
+unfolding badMonths
+taken-months Unamended kind day first last e = e
+taken-months (Amended end fix entry) kind day first last e = go (leb day end)
+  where
+    go : (b : Bool) → badMonths (cond b kind (Fixed fix entry)) first last ≡ false
+    go true = e
+    go false = refl
+
+-- R is read from the first day's entry by the first day's terms, which are those of each day
 priced-by-day : (v : View) (q : Request) (book : List ℕ) → badSpan (q .first) (q .last) ≡ false → badMonths (contractAt (v .contracts) (q .contract) .kind) (q .first) (q .last) ≡ false
-    → (day : ℕ) → q .first ≤ day → day ≤ q .last → PriceOn v q book day
-unfolding requestedBill reference
-priced-by-day v q book spans months day h i =
+    → crossesEnd (contractAt (v .contracts) (q .contract) .amendment) (q .first) (q .last) ≡ false → (day : ℕ) → q .first ≤ day → day ≤ q .last → PriceOn v q book day
+unfolding requestedBill reference termsFor
+priced-by-day v q book spans months inside day h i =
     let k = contractAt (v .contracts) (q .contract) in
-    ap (λ (n : ℕ). referenceOf (k .kind) (q .wap) (getD book n 0)) (sym (one-entry (q .first) (q .last) spans (k .fuel) (k .kind) .0 months day h i))
+    let kind = kindTaken (k .amendment) (k .kind) (q .first) in
+    let one = taken-months (k .amendment) (k .kind) (q .first) (q .first) (q .last) months in
+    rw (one-kind (k .amendment) (k .kind) (q .first) (q .last) day inside h i)
+    (ap (λ (n : ℕ). referenceOf kind (q .wap) (getD book n 0)) (sym (one-entry (q .first) (q .last) spans (k .fuel) kind .0 one day h i)))
 
 pub price-of-every-day : PriceOfEveryDay
 unfolding tests
 price-of-every-day = record {
   one-entry = λ fuel kind first last spans. one-entry first last spans fuel kind;
-  bills = λ v q book e. let p = passed v (Call.Bill q with book) e in priced-by-day v q book (p 7) (p 15);
-  rebills = λ v q book e. let p = passed v (Call.Rebill q with book) e in priced-by-day v q book (p 7) (p 15);
+  bills = λ v q book e. let p = passed v (Call.Bill q with book) e in priced-by-day v q book (p 7) (p 15) (p 17);
+  rebills = λ v q book e. let p = passed v (Call.Rebill q with book) e in priced-by-day v q book (p 7) (p 15) (p 17);
 }

@@ -82,6 +82,7 @@ module _ (R : Rules) (ok : RulesLaws R) where
   accepted l s (Call.Claim with book) r e = rw (dues R l s r, sub-pos (dueS R s / ticksPerPenny) (l .pence))
   accepted l s (Call.Report c with book) r e = reported l s c book r
   accepted l s (Call.Total with book) r e = rw (dues R l s r, sub-pos (dueS R s) (ticksPerPenny * l .pence))
+  accepted l s (Call.Amend c end fix entry with book) r e = refl
 
   answered : (l : Ledger) (s : Sheet) (c : CallWithBook) → Related R l s → answer R l c ≡ sheetAnswer R s (pos (l .pence)) c
   unfolding answer sheetAnswer

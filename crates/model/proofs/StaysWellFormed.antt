@@ -15,20 +15,20 @@ use Rattle.basics.proofs.Lists.{all-map, none-all, all-both, all-over, count-tr
 use Rattle.rates.specs.declared.Contract.{Contract}
 use Rattle.amounts.specs.declared.Bill.{Bill}
 use Rattle.model.specs.declared.Row.{Row}
-use Rattle.model.specs.Codes.{opening, certify}
+use Rattle.model.specs.Codes.{opening, certify, amend}
 use Rattle.model.specs.Contracts.{Contracts, contractAt, isOpen, putContract}
 use Rattle.model.specs.declared.Call.{Call}
 use Rattle.model.specs.declared.Request.{Request}
-use Rattle.model.specs.Calls.{CallWithBook, View, named, sharing, requestedBill, _with_}
+use Rattle.model.specs.Calls.{CallWithBook, View, named, sharing, endsAfter, requestedBill, _with_}
 use Rattle.model.specs.Rules.{Rules, refusal, partOfDue}
 use Rattle.model.specs.WellFormed.{RowOk, before, Apart, WellFormed}
 use Rattle.model.specs.Ledger.{Ledger, insert, remove, replace, sortsAfter, withRows, priced, rerated, fresh, step, view as viewL, accept as acceptL}
 use Rattle.model.specs.History.{run}
 use Rattle.model.proofs.Outcomes.{either-outcome}
 use Rattle.model.proofs.RowSums.{total-insert}
-use Rattle.model.proofs.RulesLaws.{Taken, Opened, Certified, RulesLaws}
+use Rattle.model.proofs.RulesLaws.{Taken, Opened, Certified, Amended, RulesLaws}
 use Rattle.model.proofs.Relation.{BillOk}
-use Rattle.model.proofs.KeepsRelation.{named-contract, named-first, contracts-put, part-own, part-other, bill-other, bill-certified}
+use Rattle.model.proofs.KeepsRelation.{named-contract, named-first, contracts-put, part-own, bill-certified, KeptUnder, kept-other, kept-amended}
 use Rattle.model.proofs.RowBounds.{row-span, due-low}
 use Rattle.model.proofs.RowOrder.{Span, ApartFrom, left-of, right-of, all-insert, apart-insert, all-remove, apart-remove, all-replace, apart-replace, apart-map}
 
@@ -53,11 +53,13 @@ module _ (R : Rules) (ok : RulesLaws R) where
   bill-of : {cs : Contracts} {x : Row} → RowOk R cs x → BillOk R cs (x .bill)
   bill-of o = record { isOpened = o .isOpened; ranges = o .ranges }
 
-  -- a row that is no row of the contract that is changed
+  -- a row whose bill keeps its ranges and its part under other contracts
+  row-kept : (cs cs′ : Contracts) (x : Row) → RowOk R cs x → KeptUnder R cs cs′ (x .bill) → RowOk R cs′ x
+  row-kept cs cs′ x o q = record { number = o .number; isOpened = q .ok .isOpened; ranges = q .ok .ranges; part = o .part ∙ sym (q .part) }
+
+  -- one that is no row of the contract that is changed
   row-other : (cs : Contracts) (c : ℕ) (k : Contract) (x : Row) → x .bill .contract ≢ c → RowOk R cs x → RowOk R (putContract cs c k) x
-  row-other cs c k x n o =
-      let q = bill-other R cs c k (x .bill) n (bill-of o) in
-      record { number = o .number; isOpened = q .isOpened; ranges = q .ranges; part = o .part ∙ sym (part-other R cs c k (x .bill) n) }
+  row-other cs c k x n o = row-kept cs (putContract cs c k) x o (kept-other R cs c k (x .bill) n (bill-of o))
 
   numbers-put : (cs : Contracts) (c : ℕ) (k : Contract) → c < R .contractLimit → ((d : ℕ) → R .contractLimit ≤ d → cs d ≡ none) → (d : ℕ) → R .contractLimit ≤ d → putContract cs c k d ≡ none
   unfolding putContract
@@ -106,6 +108,16 @@ module _ (R : Rules) (ok : RulesLaws R) where
 
       other : (x : Row) → RowOk R (l .contracts) x → x .bill .contract ≢ c
       other x q p = true≢false (sym (rw p at (q .isOpened)) ∙ o .new)
+
+  stays-amend : (l : Ledger) (c end fix entry : ℕ) (book : List ℕ) → WellFormed R l → refusal R (viewL l) (Call.Amend c end fix entry with book) ≡ 0 → WellFormed R (acceptL R l (Call.Amend c end fix entry with book) .next)
+  unfolding acceptL viewL
+  stays-amend l c end fix entry book w e = with-contract w (a .number) (a .ranges (w .contracts c (a .isOpened))) (w .count)
+      (all-map _ _ (λ x both. row-kept (l .contracts) _ x (both .0) (kept-amended R (viewL l) c end fix entry a (x .bill) (both .1) (bill-of (both .0)))) (l .rows)
+      (all-both (RowOk R (l .contracts)) _ (l .rows) (w .rows) (none-all (λ x. endsAfter c end (x .bill)) (l .rows) (a .ended))))
+      (w .apart)
+    where
+      a : Amended R (viewL l) c end fix entry
+      a = ok .amends (viewL l) c end fix entry book e
 
   rerate-bill : (c : ℕ) (k : Contract) (x : Row) → rerated R c k x .bill ≡ x .bill
   unfolding rerated priced
@@ -221,6 +233,7 @@ module _ (R : Rules) (ok : RulesLaws R) where
   stays-act l (Call.Claim with book) w e = stays-claim l book w e
   stays-act l (Call.Report c with book) w e = w
   stays-act l (Call.Total with book) w e = w
+  stays-act l (Call.Amend c end fix entry with book) w e = stays-amend l c end fix entry book w e
 
   pub stays : (l : Ledger) (c : CallWithBook) → WellFormed R l → WellFormed R (step R l c)
   unfolding step

@@ -7,7 +7,7 @@ use lib.ListN.{length}
 use Rattle.limits.specs.Limits.{rowCount}
 use Rattle.basics.specs.Lists.{All}
 use Rattle.basics.proofs.Lists.{all-map, all-both}
-use Rattle.rates.specs.declared.Contract.{Contract}
+use Rattle.rates.specs.declared.Terms.{Terms}
 use Rattle.amounts.specs.declared.Bill.{Bill}
 use Rattle.amounts.specs.Amounts.{amount}
 use Rattle.amounts.specs.EarlierAmount.{earlierAmount}
@@ -27,7 +27,7 @@ unfolding partOfDue
 by-day l f = all-map _ _ (λ x ok. ok .part) (l .rows) (f .rows)
 
 -- a well-formed ledger with other rows, by another amount
-rated : (f g : Contract → Bill → ℕ) (l : Ledger) → WellFormed (rulesWith f) l → (xs : List Row) → length xs ≤ rowCount → All (RowOk (rulesWith g) (l .contracts)) xs → Apart xs
+rated : (f g : Terms → Bill → ℕ) (l : Ledger) → WellFormed (rulesWith f) l → (xs : List Row) → length xs ≤ rowCount → All (RowOk (rulesWith g) (l .contracts)) xs → Apart xs
     → WellFormed (rulesWith g) (withRows l xs)
 rated f g l w xs few rows apart = record {
   territory = w .territory;

@@ -5,13 +5,14 @@ use mathlib.Core.Bool.{true, false, not, _&&_}
 use mathlib.Core.List.{List}
 use Prim.Native.Nat.{ℕ, _<_}
 use Rattle.rates.specs.declared.Contract.{Contract}
+use Rattle.rates.specs.TermsTaken.{termsFor, crossesEnd}
 use Rattle.model.specs.Contracts.{contractAt, isOpen}
 use Rattle.model.specs.Book.{reference}
 use Rattle.model.specs.declared.Call.{Call}
 use Rattle.model.specs.declared.Request.{Request}
-use Rattle.model.specs.Calls.{View, named, sharing, _with_}
+use Rattle.model.specs.Calls.{View, named, sharing, endsAfter, _with_}
 use Rattle.model.specs.Rules.{refusal}
-use Rattle.model.specs.PresentRules.{badBook, badNumber, badKind, badClass, badDays, badEffective, badSpan, badMonths, badAmounts, badShares, noPrice, presentRules}
+use Rattle.model.specs.PresentRules.{badBook, badNumber, notAmendable, badKind, badClass, badDays, badEffective, badSpan, badAmendmentDays, badMonths, badAmounts, badShares, noPrice, presentRules}
 
 -- the call is accepted
 abbrev pub Accepted : View → Call → (book : List ℕ) → Type 0
@@ -28,13 +29,14 @@ pub record RightContractAndDays (v : View) (q : Request) (book : List ℕ) : Typ
 abbrev pub contractNamed : View → Request → Contract
 contractNamed v q = contractAt (v .contracts) (q .contract)
 
--- a request that 15, 8 and 14 let pass too, and whose price isn't 0 where it is needed (11)
+-- a request that 15, 17, 8 and 14 let pass too, and whose price isn't 0 where it is needed (11)
 pub record RightNumbers (v : View) (q : Request) (book : List ℕ) : Type 0 where
   pub right : RightContractAndDays v q book
   pub months : badMonths (contractNamed v q .kind) (q .first) (q .last) ≡ false
+  pub inside : crossesEnd (contractNamed v q .amendment) (q .first) (q .last) ≡ false
   pub amounts : badAmounts (contractNamed v q) q ≡ false
   pub shares : badShares (q .kwh) (q .etii) (q .qhs) ≡ false
-  pub priced : noPrice (contractNamed v q .kind) (reference (contractNamed v q) (q .first) (q .wap) book) ≡ false
+  pub priced : noPrice (contractNamed v q .kind) (reference (termsFor (contractNamed v q) (q .first)) (q .first) (q .wap) book) ≡ false
 
 pub record AcceptedWhereNoneFits : Type 0 where
   pub opens : (v : View) (c fuel kind fix entry : ℕ) (book : List ℕ) → badNumber c ≡ false → isOpen (v .contracts) c ≡ false
@@ -50,3 +52,6 @@ pub record AcceptedWhereNoneFits : Type 0 where
   pub claims : (v : View) (book : List ℕ) → v .claims < 1000 → Accepted v Call.Claim book
   pub reports : (v : View) (c : ℕ) (book : List ℕ) → badNumber c ≡ false → isOpen (v .contracts) c ≡ true → Accepted v (Call.Report c) book
   pub totals : (v : View) (book : List ℕ) → Accepted v Call.Total book
+  pub amendments : (v : View) (c end fix entry : ℕ) (book : List ℕ) → badNumber c ≡ false → isOpen (v .contracts) c ≡ true
+      → notAmendable (contractAt (v .contracts) c) ≡ false → badAmendmentDays end fix entry ≡ false → v .held (endsAfter c end) ≡ 0
+      → Accepted v (Call.Amend c end fix entry) book

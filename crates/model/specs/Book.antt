@@ -1,4 +1,4 @@
--- Document 01, "Contracts and the price book": where a contract's reference price R is found. Assumes nothing.
+-- Document 01, "Contracts and the price book": where the reference price R of a bill is found, by the terms that it takes. Assumes nothing.
 use mathlib.Core.List.{List}
 use Prim.Native.Nat.{ℕ, _+_, _*_}
 use lib.ListN.{getD}
@@ -7,7 +7,7 @@ use Rattle.calendar.specs.Days.{schemeMonth}
 use Rattle.rates.specs.declared.Fuel.{Fuel}
 use Rattle.rates.specs.declared.Kind.{Kind}
 use Rattle.rates.specs.declared.Kind.the-variants.{Fixed, Variable, Flexible, Index}
-use Rattle.rates.specs.declared.Contract.{Contract}
+use Rattle.rates.specs.declared.Terms.{Terms}
 use Rattle.model.specs.Codes.{fuelCode}
 
 -- the months of the scheme
@@ -36,5 +36,5 @@ referenceOf Variable wap published = published
 referenceOf Flexible wap published = wap
 referenceOf Index wap published = published
 
-unfoldable pub reference : Contract → (first wap : ℕ) → (book : List ℕ) → ℕ
-reference k first wap book = referenceOf (k .kind) wap (getD book (bookIndex (k .fuel) (k .kind) first) 0)
+unfoldable pub reference : Terms → (first wap : ℕ) → (book : List ℕ) → ℕ
+reference terms first wap book = referenceOf (terms .kind) wap (getD book (bookIndex (terms .fuel) (terms .kind) first) 0)

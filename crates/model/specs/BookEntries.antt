@@ -61,7 +61,7 @@ monthEntries =
 unfoldable pub pricedAt : (entry : ℕ) → List ℕ
 pricedAt entry = replicate entry 0 ++ (1 ∷ replicate (1739 - entry) 0)
 
--- R of such a bill, by the book in which the row's entry alone has a price
+-- R of a bill with such terms, by the book in which the row's entry alone has a price
 unfoldable pub found : BookEntry → ℕ
 found e = reference (record { fuel = e .fuel; kind = e .kind; certificate = None }) (e .first) 0 (pricedAt (e .entry))
 

@@ -1,4 +1,4 @@
--- Document 01, "Turned down, in checking order", with number 14 of paper 1 and 15 of paper 2: calls on either side of the limits, with the
+-- Document 01, "Turned down, in checking order", with numbers 14 of paper 1, 15 of paper 2 and 16 to 18 of paper 5: calls on either side of the limits, with the
 -- number that turns each down, 0 where none does. Assumes nothing.
 use mathlib.Core.Path.{_≡_}
 use mathlib.Core.Bool.{Bool, true}
@@ -9,7 +9,7 @@ use lib.ListN.{replicate}
 use Rattle.basics.specs.Tests.{every}
 use Rattle.basics.specs.Lists.{All}
 use Rattle.amounts.specs.declared.Bill.{Bill}
-use Rattle.model.specs.Codes.{opening}
+use Rattle.model.specs.Codes.{opening, amend}
 use Rattle.model.specs.Contracts.{noContracts, putContract}
 use Rattle.model.specs.declared.Call.{Call}
 use Rattle.model.specs.Calls.{CallWithBook, requestOf, _with_}
@@ -47,6 +47,15 @@ northernIreland = sheetWith 1 (standing 0 500 510 ∷ standing 0 600 610 ∷ [])
 -- a Northern Ireland ledger with fixed and index electricity; the book has their prices in entry 5, the price-fix day, and in entry 1,728
 unfoldable pub fixedAndIndex : Sheet
 fixedAndIndex = record { territory = 1; contracts = putContract (putContract noContracts 0 (opening 0 0 5 6)) 1 (opening 0 3 0 0); bills = []; claims = 0 }
+
+-- a ledger with two contracts of fixed electricity, the second amended with the original end 600; both have a bill of the days 590 to 600
+unfoldable pub amended : Sheet
+amended = record {
+  territory = 0;
+  contracts = putContract (putContract (putContract noContracts 0 (opening 0 0 5 6)) 1 (amend (opening 0 0 5 6) 600 7 8)) 2 (opening 0 2 0 0);
+  bills = standing 0 590 600 ∷ standing 1 590 600 ∷ [];
+  claims = 0;
+}
 
 -- so many rows held; the test reads no more of them
 unfoldable pub sheetOfBills : ℕ → Sheet
@@ -112,6 +121,32 @@ atNumber7 =
     ∷ (Call.Bill (requestOf 0 851 852 1 1 1 0 0) with zeroBook on britain gives 7)
     ∷ (Call.Bill (requestOf 0 851 851 1 1 1 0 0) with zeroBook on britain gives 0)
     ∷ (Call.Bill (requestOf 0 499 498 1 1 1 0 0) with zeroBook on britain gives 7)
+    ∷ (Call.Amend 0 485 0 0 with [] on amended gives 7)
+    ∷ (Call.Amend 0 852 0 0 with [] on amended gives 7)
+    ∷ (Call.Amend 0 4294967295 0 0 with [] on amended gives 7)
+    ∷ (Call.Amend 0 851 852 0 with [] on amended gives 7)
+    ∷ (Call.Amend 0 851 0 852 with [] on amended gives 7)
+    ∷ (Call.Amend 0 851 851 851 with [] on amended gives 0)
+    ∷ []
+
+-- 16: the contract isn't fixed or is amended already
+unfoldable pub atNumber16 : List Boundary
+atNumber16 =
+    (Call.Amend 0 600 0 0 with [] on britain gives 16)
+    ∷ (Call.Amend 1 600 0 0 with [] on britain gives 16)
+    ∷ (Call.Amend 1 600 0 0 with [] on fixedAndIndex gives 16)
+    ∷ (Call.Amend 0 600 0 0 with [] on fixedAndIndex gives 0)
+    ∷ (Call.Amend 0 486 0 0 with [] on fixedAndIndex gives 0)
+    ∷ (Call.Amend 1 600 7 8 with [] on amended gives 16)
+    ∷ []
+
+-- 18: a standing row ends after the original end given, one wholly after it too
+unfoldable pub atNumber18 : List Boundary
+atNumber18 =
+    (Call.Amend 0 600 0 0 with [] on amended gives 0)
+    ∷ (Call.Amend 0 599 0 0 with [] on amended gives 18)
+    ∷ (Call.Amend 0 589 0 0 with [] on amended gives 18)
+    ∷ (Call.Amend 0 486 0 0 with [] on amended gives 18)
     ∷ []
 
 -- a Northern Ireland ledger in which contract 1 is of that fuel and kind
@@ -142,6 +177,26 @@ monthsGive fuel kind twoMonths =
 -- 15: a variable or index span touches two months; the same spans of fixed and flexible contracts are taken
 unfoldable pub atNumber15 : List Boundary
 atNumber15 = monthsGive 0 1 15 ++ monthsGive 1 1 15 ++ monthsGive 0 3 15 ++ monthsGive 0 0 0 ++ monthsGive 1 2 0
+
+-- a span of the amended contract, and of the one that isn't, billed, and billed again in place of the row of the days 590 to 600
+unfoldable pub endGives : (first last number : ℕ) → List Boundary
+endGives first last number =
+    (Call.Bill (requestOf 1 first last 1 1 0 0 0) with replicate 1740 1 on amended gives number)
+    ∷ (Call.Bill (requestOf 0 first last 1 1 0 0 0) with replicate 1740 1 on amended gives 0)
+    ∷ []
+
+-- 17: the span starts on or before the original end and ends after it
+unfoldable pub atNumber17 : List Boundary
+atNumber17 =
+    endGives 580 589 0
+    ++ endGives 601 601 0
+    ++ endGives 601 851 0
+    ++ (Call.Bill (requestOf 1 600 601 1 1 0 0 0) with replicate 1740 1 on amended gives 17)
+    ∷ (Call.Bill (requestOf 1 486 851 1 1 0 0 0) with replicate 1740 1 on amended gives 17)
+    ∷ (Call.Rebill (requestOf 1 590 601 1 1 0 0 0) with replicate 1740 1 on amended gives 17)
+    ∷ (Call.Rebill (requestOf 1 590 600 1 1 0 0 0) with replicate 1740 1 on amended gives 0)
+    ∷ (Call.Rebill (requestOf 0 590 601 1 1 0 0 0) with replicate 1740 1 on amended gives 0)
+    ∷ []
 
 -- 8: kWh is above 100,000,000, S or WAP above 999,999, or a WAP not 0 where it must be
 unfoldable pub atNumber8 : List Boundary
@@ -201,6 +256,10 @@ atNumber11 =
     ∷ (Call.Bill (requestOf 0 486 515 1 1 0 0 0) with pricedAt 5 on fixedAndIndex gives 0)
     ∷ (Call.Bill (requestOf 1 486 515 1 1 0 0 0) with zeroBook on fixedAndIndex gives 11)
     ∷ (Call.Bill (requestOf 1 486 515 1 1 0 0 0) with pricedAt 1728 on fixedAndIndex gives 0)
+    ∷ (Call.Rebill (requestOf 1 590 600 1 1 0 0 0) with pricedAt 5 on amended gives 0)
+    ∷ (Call.Rebill (requestOf 1 590 600 1 1 0 0 0) with pricedAt 7 on amended gives 11)
+    ∷ (Call.Bill (requestOf 1 601 610 1 1 0 0 0) with pricedAt 5 on amended gives 11)
+    ∷ (Call.Bill (requestOf 1 601 610 1 1 0 0 0) with pricedAt 7 on amended gives 0)
     ∷ []
 
 -- 12: 1,024 rows are held already
@@ -234,6 +293,14 @@ inCheckingOrder =
     ∷ (Call.Rebill (requestOf 1 516 515 1 1 0 0 0) with zeroBook on britain gives 7)
     ∷ (Call.Bill (requestOf 1 486 516 100000001 1 1 4294967295 0) with zeroBook on sheetOfBills 1024 gives 15)
     ∷ (Call.Rebill (requestOf 1 487 516 100000001 1 1 4294967295 0) with zeroBook on sheetOfBills 1 gives 15)
+    ∷ (Call.Bill (requestOf 1 600 4294967295 1 1 0 0 0) with zeroBook on amended gives 7)
+    ∷ (Call.Bill (requestOf 1 600 601 100000001 1 1 4294967295 0) with zeroBook on amended gives 17)
+    ∷ (Call.Rebill (requestOf 1 591 601 100000001 1 1 4294967295 0) with zeroBook on amended gives 17)
+    ∷ (Call.Amend 64 485 852 852 with [] on amended gives 4)
+    ∷ (Call.Amend 3 485 852 852 with [] on amended gives 5)
+    ∷ (Call.Amend 1 485 852 852 with [] on amended gives 16)
+    ∷ (Call.Amend 2 485 852 852 with [] on amended gives 16)
+    ∷ (Call.Amend 0 486 852 0 with [] on amended gives 7)
     ∷ (Call.Rebill (requestOf 0 501 501 100000001 1 1 4294967295 0) with zeroBook on britain gives 8)
     ∷ (Call.Bill (requestOf 0 486 499 100000001 1 1 4294967295 0) with zeroBook on britain gives 8)
     ∷ (Call.Rebill (requestOf 0 501 501 1 1 1 1 1) with zeroBook on britain gives 14)
@@ -252,4 +319,4 @@ asGiven e = eqb (refusal presentRules (view (e .sheet)) (e .call)) (e .number)
 abbrev pub AtTheBoundaries : Type 0
 AtTheBoundaries = All
     (λ table. every (map asGiven table) ≡ true)
-    (atNumber3 ∷ atNumber4 ∷ atNumber5 ∷ atNumber6 ∷ atNumber7 ∷ atNumber15 ∷ atNumber8 ∷ atNumber14 ∷ atNumber9 ∷ atNumber10 ∷ atNumber11 ∷ atNumber12 ∷ atNumber13 ∷ inCheckingOrder ∷ [])
+    (atNumber3 ∷ atNumber4 ∷ atNumber5 ∷ atNumber16 ∷ atNumber6 ∷ atNumber7 ∷ atNumber15 ∷ atNumber17 ∷ atNumber18 ∷ atNumber8 ∷ atNumber14 ∷ atNumber9 ∷ atNumber10 ∷ atNumber11 ∷ atNumber12 ∷ atNumber13 ∷ inCheckingOrder ∷ [])

@@ -1,11 +1,12 @@
--- Document 01, "Calls": the calls of a history, what they answer, and what the refusals read. Assumes nothing.
+-- Document 01, "Calls", with paper 5's amend: the calls of a history, what they answer, and what the refusals read. Assumes nothing.
 use mathlib.Core.Bool.{Bool, cond, _&&_}
 use mathlib.Core.List.{List, [], _∷_}
 use Prim.Native.Nat.{ℕ, zero, suc}
-use lib.Dec.{leb, eqb}
+use lib.Dec.{leb, ltb, eqb}
 use lib.IntN.{ℤ, pos}
 use lib.ListN.{length}
 use Rattle.rates.specs.declared.Contract.{Contract}
+use Rattle.rates.specs.TermsTaken.{termsFor}
 use Rattle.amounts.specs.declared.Bill.{Bill}
 use Rattle.model.specs.declared.Request.{Request}
 use Rattle.model.specs.declared.Call.{Call}
@@ -113,6 +114,10 @@ named c first b = eqb (b .contract) c && eqb (b .first) first
 unfoldable pub sharing : (contract first last : ℕ) → Bill → Bool
 sharing c first last b = eqb (b .contract) c && (leb (b .first) last && leb first (b .last))
 
+-- a bill of that contract that ends after the day
+unfoldable pub endsAfter : (contract day : ℕ) → Bill → Bool
+endsAfter c day b = eqb (b .contract) c && ltb day (b .last)
+
 -- a refusal: its number, and whether it fits
 pub record Test : Type 0 where
   pub number : ℕ
@@ -129,7 +134,7 @@ firstOf (t ∷ ts) = cond (t .fits) (t .number) (firstOf ts)
 
 -- ---- what an accepted call brings
 
--- the bill of a bill or rebill under its contract: R from its own book or WAP
+-- the bill of a bill or rebill under its contract: R from its own book or WAP, by the terms of its first day
 abbrev pub billUnder : Contract → Request → (book : List ℕ) → Bill
 billUnder k q book = record {
   contract = q .contract;
@@ -138,7 +143,7 @@ billUnder k q book = record {
   kwh = q .kwh;
   etii = q .etii;
   qhs = q .qhs;
-  reference = reference k (q .first) (q .wap) book;
+  reference = reference (termsFor k (q .first)) (q .first) (q .wap) book;
   supply = q .supply;
 }
 

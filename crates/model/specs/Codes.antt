@@ -1,5 +1,5 @@
--- Document 01, "Contracts and the price book": the numbers that stand for a fuel, a kind with its days and a certificate; the kinds whose R is
--- the WAP, and those whose prices are monthly. Assumes nothing.
+-- Document 01, "Contracts and the price book", with paper 5's amendments: the numbers that stand for a fuel, a kind with its days, a certificate
+-- and an amendment; the kinds that are fixed, those whose R is the WAP, and those whose prices are monthly. Assumes nothing.
 use mathlib.Core.Bool.{Bool, true, false, cond}
 use Prim.Native.Nat.{ℕ}
 use lib.Dec.{eqb}
@@ -9,6 +9,8 @@ use Rattle.rates.specs.declared.Kind.{Kind}
 use Rattle.rates.specs.declared.Kind.the-variants.{Fixed, Variable, Flexible, Index}
 use Rattle.rates.specs.declared.Certificate.{Certificate}
 use Rattle.rates.specs.declared.Certificate.the-variants.{None, Etii, Qhs}
+use Rattle.rates.specs.declared.Amendment.{Amendment}
+use Rattle.rates.specs.declared.Amendment.the-variants.{Unamended, Amended}
 use Rattle.rates.specs.declared.Contract.{Contract}
 
 -- fuel: 0 electricity, 1 gas
@@ -41,6 +43,12 @@ entryDay Variable = 0
 entryDay Flexible = 0
 entryDay Index = 0
 
+abbrev pub isFixed : Kind → Bool
+isFixed (Fixed fix entry) = true
+isFixed Variable = false
+isFixed Flexible = false
+isFixed Index = false
+
 abbrev pub isFlexible : Kind → Bool
 isFlexible (Fixed fix entry) = false
 isFlexible Variable = false
@@ -68,10 +76,38 @@ effectiveDay None = 0
 effectiveDay (Etii effective) = effective
 effectiveDay (Qhs effective) = effective
 
--- a contract that is opened: its fuel, kind and days, without a certificate
+-- an amendment: a flag, 0 where there is none, and the three days, the original end, the price-fix day and the entry day
+abbrev pub amendmentOf : (flag originalEnd priceFixDay entryDay : ℕ) → Amendment
+amendmentOf flag end fix entry = cond (eqb flag 0) Unamended (Amended end fix entry)
+
+abbrev pub amendmentFlag : Amendment → ℕ
+amendmentFlag Unamended = 0
+amendmentFlag (Amended end fix entry) = 1
+
+abbrev pub originalEnd : Amendment → ℕ
+originalEnd Unamended = 0
+originalEnd (Amended end fix entry) = end
+
+abbrev pub amendedPriceFixDay : Amendment → ℕ
+amendedPriceFixDay Unamended = 0
+amendedPriceFixDay (Amended end fix entry) = fix
+
+abbrev pub amendedEntryDay : Amendment → ℕ
+amendedEntryDay Unamended = 0
+amendedEntryDay (Amended end fix entry) = entry
+
+abbrev pub isAmended : Amendment → Bool
+isAmended Unamended = false
+isAmended (Amended end fix entry) = true
+
+-- a contract that is opened: its fuel, kind and days, without a certificate and unamended
 unfoldable pub opening : (fuel kind priceFixDay entryDay : ℕ) → Contract
-opening fuel kind fix entry = record { fuel = fuelOf fuel; kind = kindOf kind fix entry; certificate = None }
+opening fuel kind fix entry = record { fuel = fuelOf fuel; kind = kindOf kind fix entry; certificate = None; amendment = Unamended }
 
 -- a contract with another certificate in place of its own; class 0 leaves none
 unfoldable pub certify : Contract → (class effectiveDay : ℕ) → Contract
-certify k class effective = record { fuel = k .fuel; kind = k .kind; certificate = certificateOf class effective }
+certify k class effective = record { fuel = k .fuel; kind = k .kind; certificate = certificateOf class effective; amendment = k .amendment }
+
+-- a contract with an amendment: "an accepted amend adds the three days to its contract"
+unfoldable pub amend : Contract → (originalEnd priceFixDay entryDay : ℕ) → Contract
+amend k end fix entry = record { fuel = k .fuel; kind = k .kind; certificate = k .certificate; amendment = Amended end fix entry }

@@ -6,6 +6,7 @@ use lib.Dec.{eqb}
 use Rattle.rates.specs.declared.Fuel.the-variants.{Electricity}
 use Rattle.rates.specs.declared.Kind.the-variants.{Variable}
 use Rattle.rates.specs.declared.Certificate.the-variants.{None}
+use Rattle.rates.specs.declared.Amendment.the-variants.{Unamended}
 use Rattle.rates.specs.declared.Contract.{Contract}
 use Rattle.amounts.specs.declared.Bill.{Bill}
 
@@ -18,7 +19,7 @@ noContracts c = none
 
 -- the contract with that number; one that no call reads where it isn't open
 abbrev pub contractIn : Option Contract → Contract
-contractIn none = record { fuel = Electricity; kind = Variable; certificate = None }
+contractIn none = record { fuel = Electricity; kind = Variable; certificate = None; amendment = Unamended }
 contractIn (some k) = k
 
 unfoldable pub contractAt : Contracts → ℕ → Contract

@@ -1,4 +1,4 @@
--- Document 01, "The packed ledger" and "Calls": the ledger's facts, and what each call answers and leaves. Assumes nothing.
+-- Document 01, "The packed ledger" and "Calls", with paper 5's amend: the ledger's facts, and what each call answers and leaves. Assumes nothing.
 use mathlib.Core.Bool.{Bool, not, cond, _&&_, _||_}
 use mathlib.Core.List.{List, [], _∷_, map}
 use Prim.Native.Nat.{ℕ, suc, _*_, _/_, _%_}
@@ -11,7 +11,7 @@ use Rattle.amounts.specs.declared.Bill.{Bill}
 use Rattle.model.specs.declared.Row.{Row}
 use Rattle.model.specs.declared.Answer.{Answer}
 use Rattle.model.specs.declared.Answer.the-variants.{Refused, Done, Billed, Rebilled, Certified, Cancelled, Claimed, Reported, Totalled}
-use Rattle.model.specs.Codes.{opening, certify}
+use Rattle.model.specs.Codes.{opening, certify, amend}
 use Rattle.model.specs.Contracts.{Contracts, noContracts, contractAt, putContract}
 use Rattle.model.specs.declared.Call.{Call}
 use Rattle.model.specs.Calls.{CallWithBook, View, named, requestedBill, _with_}
@@ -80,6 +80,9 @@ pub record Outcome : Type 0 where
 abbrev pub withRows : Ledger → List Row → Ledger
 withRows l xs = record { territory = l .territory; contracts = l .contracts; rows = xs; claims = l .claims; pence = l .pence }
 
+abbrev pub withContract : Ledger → ℕ → Contract → Ledger
+withContract l c k = record { territory = l .territory; contracts = putContract (l .contracts) c k; rows = l .rows; claims = l .claims; pence = l .pence }
+
 -- a refused call answers its number and leaves the ledger as it was
 abbrev pub turnedDown : Ledger → (refusal : ℕ) → Outcome
 turnedDown l n = record { next = l; answers = Refused n }
@@ -95,16 +98,7 @@ module _ (R : Rules) where
 
   -- what each call leaves and answers where nothing turns it down
   unfoldable pub accept : Ledger → CallWithBook → Outcome
-  accept l (Call.Open c fuel kind fix entry with book) = record {
-    next = record {
-      territory = l .territory;
-      contracts = putContract (l .contracts) c (opening fuel kind fix entry);
-      rows = l .rows;
-      claims = l .claims;
-      pence = l .pence;
-    };
-    answers = Done;
-  }
+  accept l (Call.Open c fuel kind fix entry with book) = record { next = withContract l c (opening fuel kind fix entry); answers = Done }
   accept l (Call.Bill q with book) =
       let k = contractAt (l .contracts) (q .contract) in
       let b = requestedBill (l .contracts) q book in
@@ -121,7 +115,7 @@ module _ (R : Rules) where
       let k = certify (contractAt (l .contracts) c) class effective in
       let xs = map (rerated c k) (l .rows) in
       record {
-        next = record { territory = l .territory; contracts = putContract (l .contracts) c k; rows = xs; claims = l .claims; pence = l .pence };
+        next = withContract (withRows l xs) c k;
         answers = Certified (subℕ (total (λ x. x .amount) xs) (due l)) (count (λ x. not (eqb (rerated c k x .amount) (x .amount))) (l .rows));
       }
   accept l (Call.Cancel c first with book) =
@@ -135,6 +129,7 @@ module _ (R : Rules) where
     answers = Reported (count (ofContract c) (l .rows)) (total (λ x. cond (ofContract c x) (x .bill .kwh) 0) (l .rows)) (total (λ x. cond (ofContract c x) (x .amount) 0) (l .rows));
   }
   accept l (Call.Total with book) = record { next = l; answers = Totalled (due l) (subℕ (due l) (ticksPerPenny * l .pence)) }
+  accept l (Call.Amend c end fix entry with book) = record { next = withContract l c (amend (contractAt (l .contracts) c) end fix entry); answers = Done }
 
   unfoldable pub outcome : Ledger → CallWithBook → Outcome
   outcome l c = let n = refusal R (view l) c in unlessRefused n (accept l c) (turnedDown l n)

@@ -20,6 +20,8 @@ pub mod Postings
 pub mod Run
 pub mod LandlordExample
 pub mod CertificateInsideExample
+pub mod BlendAndExtendExample
+pub mod Amendments
 pub mod PriceOfEveryDay
 pub mod AcceptedCalls
 pub mod NumberFifteen

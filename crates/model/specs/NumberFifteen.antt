@@ -27,6 +27,7 @@ GivesTwoMonths v (Call.Cancel c first with book) = ⊥
 GivesTwoMonths v (Call.Claim with book) = ⊥
 GivesTwoMonths v (Call.Report c with book) = ⊥
 GivesTwoMonths v (Call.Total with book) = ⊥
+GivesTwoMonths v (Call.Amend c end fix entry with book) = ⊥
 
 abbrev pub NumberFifteen : Type 0
 NumberFifteen = (v : View) (c : CallWithBook) → (refusal presentRules v c ≡ 15) ↔ GivesTwoMonths v c

@@ -92,6 +92,7 @@ posts R s (Call.Cancel c first with book) = reversals R (s .contracts) (passing 
 posts R s (Call.Claim with book) = []
 posts R s (Call.Report c with book) = []
 posts R s (Call.Total with book) = []
+posts R s (Call.Amend c end fix entry with book) = []
 
 -- the rate that a call answers where nothing turns it down
 unfoldable pub acceptedRate : Rules → Sheet → CallWithBook → ℕ
@@ -103,6 +104,7 @@ acceptedRate R s (Call.Cancel c first with book) = 0
 acceptedRate R s (Call.Claim with book) = 0
 acceptedRate R s (Call.Report c with book) = 0
 acceptedRate R s (Call.Total with book) = 0
+acceptedRate R s (Call.Amend c end fix entry with book) = 0
 
 -- the pence that a claim answers where nothing turns it down: the floor of the sum, less the pence claimed before
 unfoldable pub acceptedPence : Postings → CallWithBook → ℤ
@@ -114,6 +116,7 @@ acceptedPence p (Call.Cancel c first with book) = pos 0
 acceptedPence p (Call.Claim with book) = floorPence (sumPosted (p .posted)) -ℤ p .claimed
 acceptedPence p (Call.Report c with book) = pos 0
 acceptedPence p (Call.Total with book) = pos 0
+acceptedPence p (Call.Amend c end fix entry with book) = pos 0
 
 -- what a call leaves and answers; one that is turned down, by the same tests on the module's own facts, posts nothing and answers zeros
 module _ (R : Rules) where

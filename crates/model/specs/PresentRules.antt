@@ -1,4 +1,4 @@
--- Document 01, "Turned down, in checking order" and the ranges of a well-formed ledger, with papers 1 to 3 of document 02: the rules in
+-- Document 01, "Turned down, in checking order" and the ranges of a well-formed ledger, with papers 1 to 5 of document 02: the rules in
 -- force. The limits are named in crate `limits`. Assumes nothing.
 use mathlib.Core.Bool.{Bool, true, not, cond, _&&_, _||_}
 use mathlib.Core.List.{List, [], _∷_, _++_}
@@ -11,14 +11,16 @@ use Rattle.basics.specs.Lists.{count}
 use Rattle.calendar.specs.Days.{schemeMonth}
 use Rattle.rates.specs.declared.Kind.{Kind}
 use Rattle.rates.specs.declared.Contract.{Contract}
+use Rattle.rates.specs.declared.Terms.{Terms}
+use Rattle.rates.specs.TermsTaken.{termsFor, crossesEnd}
 use Rattle.amounts.specs.declared.Bill.{Bill}
 use Rattle.amounts.specs.Amounts.{rate, amount, cap}
-use Rattle.model.specs.Codes.{isFlexible, isMonthly}
-use Rattle.model.specs.ContractNumbers.{numbersOfContract, fuelIn, kindIn, priceFixDayIn, entryDayIn, classIn, effectiveDayIn}
+use Rattle.model.specs.Codes.{isFixed, isFlexible, isMonthly, isAmended}
+use Rattle.model.specs.ContractNumbers.{numbersOfContract, fuelIn, kindIn, priceFixDayIn, entryDayIn, classIn, effectiveDayIn, amendmentFlagIn, originalEndIn, amendedPriceFixDayIn, amendedEntryDayIn}
 use Rattle.model.specs.Contracts.{contractAt, contractOf, isOpen}
 use Rattle.model.specs.declared.Call.{Call}
 use Rattle.model.specs.declared.Request.{Request}
-use Rattle.model.specs.Calls.{CallWithBook, View, Test, _if_, named, sharing, requestedBill, _with_}
+use Rattle.model.specs.Calls.{CallWithBook, View, Test, _if_, named, sharing, endsAfter, requestedBill, _with_}
 use Rattle.model.specs.Rules.{Rules}
 
 -- 3: the book isn't of its length or has an entry above the highest price
@@ -28,6 +30,10 @@ badBook book = not (eqb (length book) bookLength) || ltb 0 (count (ltb highestPr
 -- 4: the contract number is above the last
 abbrev pub badNumber : ℕ → Bool
 badNumber c = leb contractCount c
+
+-- 16: the contract isn't fixed or is amended already
+unfoldable pub notAmendable : Contract → Bool
+notAmendable k = not (isFixed (k .kind)) || isAmended (k .amendment)
 
 -- 6: a fuel or kind code has no meaning, or kind 3 is given outside its place (electricity in a Northern Ireland ledger)
 unfoldable pub badKind : (territory fuel kind : ℕ) → Bool
@@ -48,6 +54,10 @@ badEffective class day = cond (eqb class 0) (not (eqb day 0)) (ltb lastDay day |
 -- 7: not the scheme's first day ≤ first ≤ last ≤ the last day
 unfoldable pub badSpan : (first last : ℕ) → Bool
 badSpan first last = not (leb firstSchemeDay first && (leb first last && leb last lastDay))
+
+-- 7: an original end that is no day of the scheme, or an amendment's price-fix or entry day after the last day
+unfoldable pub badAmendmentDays : (originalEnd priceFixDay entryDay : ℕ) → Bool
+badAmendmentDays end fix entry = not (leb firstSchemeDay end && leb end lastDay) || (ltb lastDay fix || ltb lastDay entry)
 
 -- 15: a variable or index span touches two months: its first and last day, which are the scheme's, aren't in one
 unfoldable pub badMonths : Kind → (first last : ℕ) → Bool
@@ -76,6 +86,7 @@ requestTests v q book =
     ∷ openTests v (q .contract)
     ++ ((7 if badSpan (q .first) (q .last))
     ∷ (15 if badMonths (contractAt (v .contracts) (q .contract) .kind) (q .first) (q .last))
+    ∷ (17 if crossesEnd (contractAt (v .contracts) (q .contract) .amendment) (q .first) (q .last))
     ∷ (8 if badAmounts (contractAt (v .contracts) (q .contract)) q)
     ∷ (14 if badShares (q .kwh) (q .etii) (q .qhs))
     ∷ [])
@@ -111,8 +122,18 @@ tests v (Call.Cancel c first with book) = openTests v c ++ ((9 if not (ltb 0 (v 
 tests v (Call.Claim with book) = (13 if leb mostClaims (v .claims)) ∷ []
 tests v (Call.Report c with book) = openTests v c
 tests v (Call.Total with book) = []
+tests v (Call.Amend c end fix entry with book) =
+    openTests v c
+    ++ ((16 if notAmendable (contractAt (v .contracts) c))
+    ∷ (7 if badAmendmentDays end fix entry)
+    ∷ (18 if ltb 0 (v .held (endsAfter c end)))
+    ∷ [])
 
 -- ---- the ranges of a well-formed ledger
+
+-- an amendment: "A clear flag has three zero days, only a fixed contract has it set"
+unfoldable pub badAmendment : (kind flag originalEnd priceFixDay entryDay : ℕ) → Bool
+badAmendment kind flag end fix entry = cond (eqb flag 0) (not (eqb end 0 && (eqb fix 0 && eqb entry 0))) (ltb 1 flag || (not (eqb kind 0) || badAmendmentDays end fix entry))
 
 -- an open contract, by its numbers
 abbrev pub contractTests : (territory : ℕ) → (numbers : List ℕ) → List Bool
@@ -121,6 +142,7 @@ contractTests t v =
     ∷ not (badDays (kindIn v) (priceFixDayIn v) (entryDayIn v))
     ∷ not (badClass (classIn v))
     ∷ not (badEffective (classIn v) (effectiveDayIn v))
+    ∷ not (badAmendment (kindIn v) (amendmentFlagIn v) (originalEndIn v) (amendedPriceFixDayIn v) (amendedEntryDayIn v))
     ∷ []
 
 unfoldable pub contractRanges : (territory : ℕ) → (numbers : List ℕ) → Bool
@@ -129,7 +151,8 @@ contractRanges t v = every (contractTests t v)
 unfoldable pub contractOk : (territory : ℕ) → Contract → Bool
 contractOk t k = contractRanges t (numbersOfContract k)
 
--- a held row: its days, kWh, shares that don't exceed it, S and R, R 0 only for flexible; whatever months it touches
+-- a held row: its days, kWh, shares that don't exceed it, S and R, R 0 only for flexible; "no row of an amended contract crosses its original
+-- end"; whatever months it touches
 abbrev pub billTests : Contract → Bill → List Bool
 billTests k b =
     not (badSpan (b .first) (b .last))
@@ -138,10 +161,25 @@ billTests k b =
     ∷ leb (b .supply) highestPrice
     ∷ leb (b .reference) highestPrice
     ∷ not (noPrice (k .kind) (b .reference))
+    ∷ not (crossesEnd (k .amendment) (b .first) (b .last))
     ∷ []
 
 unfoldable pub billOk : Contract → Bill → Bool
 billOk k b = every (billTests k b)
 
+-- ---- the rules
+
+-- a figure of a bill under its contract: by the terms that it takes
+abbrev pub byTerms : (Terms → Bill → ℕ) → Contract → Bill → ℕ
+byTerms figure k b = figure (termsFor k (b .first)) b
+
 abbrev pub presentRules : Rules
-presentRules = record { contractLimit = contractCount; tests = tests; rate = rate; amount = amount; cap = cap; contractOk = contractOk; billOk = billOk }
+presentRules = record {
+  contractLimit = contractCount;
+  tests = tests;
+  rate = byTerms rate;
+  amount = byTerms amount;
+  cap = byTerms cap;
+  contractOk = contractOk;
+  billOk = billOk;
+}

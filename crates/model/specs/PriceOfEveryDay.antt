@@ -7,6 +7,7 @@ use mathlib.Core.Logic.{_↔_}
 use Prim.Native.Nat.{ℕ, _≤_}
 use Rattle.rates.specs.declared.Fuel.{Fuel}
 use Rattle.rates.specs.declared.Kind.{Kind}
+use Rattle.rates.specs.TermsTaken.{termsFor}
 use Rattle.model.specs.Contracts.{contractAt}
 use Rattle.model.specs.Book.{bookIndex, reference}
 use Rattle.model.specs.declared.Call.{Call}
@@ -17,7 +18,7 @@ use Rattle.model.specs.PresentRules.{badSpan, badMonths, presentRules}
 
 -- R that the request has is the one that a bill from that day on would have
 abbrev pub PriceOn : View → Request → (book : List ℕ) → (day : ℕ) → Type 0
-PriceOn v q book day = requestedBill (v .contracts) q book .reference ≡ reference (contractAt (v .contracts) (q .contract)) day (q .wap) book
+PriceOn v q book day = requestedBill (v .contracts) q book .reference ≡ reference (termsFor (contractAt (v .contracts) (q .contract)) day) day (q .wap) book
 
 -- if the call of a request isn't turned down, R is the price of each day of the span
 abbrev pub PricedOnEachDay : (Request → Call) → Type 0

@@ -1,11 +1,11 @@
--- Document 01, "A history and its sheet": the sheet is fed the territory and the calls, and no answer and no byte. Assumes nothing.
+-- Document 01, "A history and its sheet", with paper 5's amend: the sheet is fed the territory and the calls, and no answer and no byte. Assumes nothing.
 use mathlib.Core.Bool.{Bool, cond}
 use mathlib.Core.List.{List, [], _∷_, map}
 use Prim.Native.Nat.{ℕ, suc}
 use Rattle.basics.specs.Lists.{total, count}
 use Rattle.rates.specs.declared.Contract.{Contract}
 use Rattle.amounts.specs.declared.Bill.{Bill}
-use Rattle.model.specs.Codes.{opening, certify}
+use Rattle.model.specs.Codes.{opening, certify, amend}
 use Rattle.model.specs.Contracts.{Contracts, noContracts, contractAt, putContract}
 use Rattle.model.specs.declared.Call.{Call}
 use Rattle.model.specs.Calls.{CallWithBook, View, named, requestedBill, _with_}
@@ -50,6 +50,7 @@ accept s (Call.Cancel c first with book) = withBills s (strikeOut (named c first
 accept s (Call.Claim with book) = record { territory = s .territory; contracts = s .contracts; bills = s .bills; claims = suc (s .claims) }
 accept s (Call.Report c with book) = s
 accept s (Call.Total with book) = s
+accept s (Call.Amend c end fix entry with book) = withContract s c (amend (contractAt (s .contracts) c) end fix entry)
 
 -- a call that is turned down leaves the sheet as it was
 unfoldable pub step : Rules → Sheet → CallWithBook → Sheet

@@ -43,6 +43,7 @@ module _ (R : Rules) where
       (total (λ b. cond (eqb (b .contract) c) (b .kwh) 0) (s .bills))
       (total (λ b. cond (eqb (b .contract) c) (partOfDue R (s .contracts) b) 0) (s .bills))
   acceptedAnswer s pence (Call.Total with book) = Totalled (due R s) (pos (due R s) -ℤ pos ticksPerPenny *ℤ pence)
+  acceptedAnswer s pence (Call.Amend c end fix entry with book) = Done
 
   -- a refused call answers its number
   unfoldable pub sheetAnswer : Sheet → (pence : ℤ) → CallWithBook → Answer

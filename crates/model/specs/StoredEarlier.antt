@@ -4,7 +4,7 @@ use mathlib.Core.List.{List, [], _∷_}
 use mathlib.Core.Logic.{_↔_}
 use Prim.Native.Nat.{ℕ}
 use Rattle.basics.specs.Lists.{All}
-use Rattle.rates.specs.declared.Contract.{Contract}
+use Rattle.rates.specs.declared.Terms.{Terms}
 use Rattle.amounts.specs.declared.Bill.{Bill}
 use Rattle.amounts.specs.Amounts.{amount}
 use Rattle.amounts.specs.EarlierAmount.{earlierAmount}
@@ -13,18 +13,18 @@ use Rattle.model.specs.declared.Call.{Call}
 use Rattle.model.specs.Calls.{CallWithBook, _with_}
 use Rattle.model.specs.Contracts.{Contracts, contractOf}
 use Rattle.model.specs.Rules.{Rules}
-use Rattle.model.specs.PresentRules.{presentRules}
+use Rattle.model.specs.PresentRules.{byTerms, presentRules}
 use Rattle.model.specs.Ledger.{Ledger, withRows}
 use Rattle.model.specs.History.{stateAfter, ledgerMachine}
 use Rattle.model.specs.WellFormed.{WellFormed}
 
 -- the rules in force with another amount; with the earlier one they ask of a ledger what was asked before
-abbrev pub rulesWith : (amount : Contract → Bill → ℕ) → Rules
+abbrev pub rulesWith : (amount : Terms → Bill → ℕ) → Rules
 rulesWith amount = record {
   contractLimit = presentRules .contractLimit;
   tests = presentRules .tests;
   rate = presentRules .rate;
-  amount = amount;
+  amount = byTerms amount;
   cap = presentRules .cap;
   contractOk = presentRules .contractOk;
   billOk = presentRules .billOk;
@@ -32,7 +32,7 @@ rulesWith amount = record {
 
 -- a row's amount is that by day
 abbrev pub RatedByDay : Contracts → Row → Type 0
-RatedByDay cs x = x .amount ≡ amount (contractOf cs (x .bill)) (x .bill)
+RatedByDay cs x = x .amount ≡ byTerms amount (contractOf cs (x .bill)) (x .bill)
 
 -- ---- an example: 1,000 kWh in April 2023, of a contract with an ETII certificate from 11 April on
 

@@ -44,6 +44,12 @@ pub enum Call {
         contract: u32,
     },
     Total,
+    Amend {
+        contract: u32,
+        original_end: u32,
+        price_fix_day: u32,
+        entry_day: u32,
+    },
 }
 
 // What a call answers: the number of a refusal, or the call's numbers.

@@ -1,5 +1,6 @@
--- Laws of parts, rates and caps, and the paper's twelve rates.
+-- Laws of parts, rates and caps, the paper's twelve rates, and the terms that a bill takes.
 pub mod Parts
 pub mod TwelveRates
 pub mod RateExamples
 pub mod WithinCaps
+pub mod TermsTaken

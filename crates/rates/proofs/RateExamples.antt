@@ -14,7 +14,7 @@ use Rattle.rates.specs.declared.Kind.{Kind}
 use Rattle.rates.specs.declared.Class.the-variants.{QhsOld, QhsNew}
 use Rattle.rates.specs.declared.Prices.the-variants.{Unlimited}
 use Rattle.rates.specs.Rates.{leastTerm, part, partOf, classRate, classCap, enteredEarly, qhsClass, classOf}
-use Rattle.rates.specs.TwelveRates.{example, contractIn, billClass, rated}
+use Rattle.rates.specs.TwelveRates.{example, termsIn, billClass, rated}
 use Rattle.rates.specs.RateExamples.{capIn, caps, firstDiscounts, classes, CapsAttained, DiscountsBegin, ClassesApplied}
 use Rattle.rates.proofs.Parts.{part-unlimited}
 
@@ -33,13 +33,13 @@ qhs fuel kind first S = by-class fuel (leb newMinimumDay first && not (enteredEa
     by-class Gas false = whole-part _ S
 
 pub caps-attained : CapsAttained
-unfolding caps capIn example contractIn billClass rated classOf qhsClass classRate classCap partOf part leastTerm
+unfolding caps capIn example termsIn billClass rated classOf qhsClass classRate classCap partOf part leastTerm
 caps-attained = record { caps-given = refl; rates-as-high = refl; qhs = qhs }
 
 pub discounts-begin : DiscountsBegin
-unfolding firstDiscounts example contractIn billClass rated classOf qhsClass classRate partOf part leastTerm
+unfolding firstDiscounts example termsIn billClass rated classOf qhsClass classRate partOf part leastTerm
 discounts-begin = refl
 
 pub classes-applied : ClassesApplied
-unfolding classes example contractIn billClass rated classOf qhsClass classRate partOf part leastTerm
+unfolding classes example termsIn billClass rated classOf qhsClass classRate partOf part leastTerm
 classes-applied = refl

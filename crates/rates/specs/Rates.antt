@@ -13,7 +13,7 @@ use Rattle.rates.specs.declared.Kind.the-variants.{Fixed, Variable, Flex
 use Rattle.rates.specs.declared.Certificate.{Certificate}
 use Rattle.rates.specs.declared.Certificate.the-variants.{None}
 use Rattle.rates.specs.declared.Certificate.the-variants as certificate
-use Rattle.rates.specs.declared.Contract.{Contract}
+use Rattle.rates.specs.declared.Terms.{Terms}
 use Rattle.rates.specs.declared.Class.{Class}
 use Rattle.rates.specs.declared.Class.the-variants.{Baseline, Etii, QhsOld, QhsNew}
 use Rattle.rates.specs.declared.Prices.{Prices}
@@ -57,8 +57,8 @@ certifiedClass None kind first = Baseline
 certifiedClass (certificate.Etii effective) kind first = cond (leb effective first) Etii Baseline
 certifiedClass (certificate.Qhs effective) kind first = cond (leb effective first) (qhsClass kind first) Baseline
 
-unfoldable pub classOf : Contract → (first : ℕ) → Class
-classOf contract first = certifiedClass (contract .certificate) (contract .kind) first
+unfoldable pub classOf : Terms → (first : ℕ) → Class
+classOf terms first = certifiedClass (terms .certificate) (terms .kind) first
 
 -- a class's cap: baseline 19,610 electricity and 6,970 gas; ETII 68,183 and 30,091; QHS 10 times max(S − QHS minimum, 0)
 abbrev pub baselineCap : Fuel → ℕ

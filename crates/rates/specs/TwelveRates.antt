@@ -8,11 +8,11 @@ use Rattle.rates.specs.declared.Kind.{Kind}
 use Rattle.rates.specs.declared.Kind.the-variants.{Fixed, Flexible}
 use Rattle.rates.specs.declared.Certificate.{Certificate}
 use Rattle.rates.specs.declared.Certificate.the-variants.{None, Etii, Qhs}
-use Rattle.rates.specs.declared.Contract.{Contract}
+use Rattle.rates.specs.declared.Terms.{Terms}
 use Rattle.rates.specs.declared.Class.{Class}
 use Rattle.rates.specs.Rates.{classRate, classOf}
 
--- a row of the table: a contract, a bill's first day, R and S, and the rate in ticks
+-- a row of the table: the terms that a bill takes, its first day, R and S, and the rate in ticks
 pub record Example : Type 0 where
   pub fuel : Fuel
   pub kind : Kind
@@ -25,12 +25,12 @@ pub record Example : Type 0 where
 unfoldable pub example : Fuel → Kind → Certificate → (first R S ticks : ℕ) → Example
 example f k c d R S t = record { fuel = f; kind = k; certificate = c; first = d; R = R; S = S; ticks = t }
 
--- the class of a row's bill, by its contract and its first day, and the rate of that class
-unfoldable pub contractIn : Example → Contract
-contractIn e = record { fuel = e .fuel; kind = e .kind; certificate = e .certificate }
+-- the class of a row's bill, by its terms and its first day, and the rate of that class
+unfoldable pub termsIn : Example → Terms
+termsIn e = record { fuel = e .fuel; kind = e .kind; certificate = e .certificate }
 
 unfoldable pub billClass : Example → Class
-billClass e = classOf (contractIn e) (e .first)
+billClass e = classOf (termsIn e) (e .first)
 
 unfoldable pub rated : Example → ℕ
 rated e = classRate (e .fuel) (billClass e) (e .R) (e .S)

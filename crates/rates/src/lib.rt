@@ -1,4 +1,4 @@
-// The discount per kWh: contracts, certificates, classes, parts and the rates of the classes.
+// The discount per kWh: contracts, the terms that a bill takes of its contract, classes, parts and the rates of the classes.
 mod fuels;
 
 use fuels::Electricity;
@@ -7,6 +7,7 @@ use limits::NEW_MINIMUM_DAY;
 ghost use mathlib.Core.Path.{_≡_};
 ghost use Prim.Native.Nat.{_-_, _≤_, min, max};
 ghost use Rattle.rates.specs.Prices.{pricesOf};
+ghost use Rattle.rates.specs.TermsTaken.{kindTaken, termsFor, crossesEnd};
 ghost use Rattle.rates.specs.Rates.{part, partOf, classRate, enteredEarly, qhsClass, classOf};
 
 // Fuel: 0 electricity, 1 gas.
@@ -30,7 +31,25 @@ pub enum Certificate {
     Qhs { effective_day: u32 },
 }
 
+// An amendment of a fixed contract: its original end day, and the price-fix day and the day of entry of bills that start after it.
+pub enum Amendment {
+    Unamended,
+    Amended {
+        original_end: u32,
+        price_fix_day: u32,
+        entry_day: u32,
+    },
+}
+
 pub struct Contract {
+    pub fuel: Fuel,
+    pub kind: Kind,
+    pub certificate: Certificate,
+    pub amendment: Amendment,
+}
+
+// The terms that a bill takes of its contract, of a fixed kind with one pair of days.
+pub struct Terms {
     pub fuel: Fuel,
     pub kind: Kind,
     pub certificate: Certificate,
@@ -155,12 +174,12 @@ fn qhs_class(kind: Kind, first: u32) -> Class
     Class::QhsNew
 }
 
-// The class of a contract's bill with that first day.
-pub fn class_of(contract: Contract, first: u32) -> Class
-    ensures { λ r. ⌜ r ≡ classOf contract first ⌝ }
+// The class of a bill with those terms and that first day.
+pub fn class_of(terms: Terms, first: u32) -> Class
+    ensures { λ r. ⌜ r ≡ classOf terms first ⌝ }
 {
-    let certificate = contract.certificate;
-    let kind = contract.kind;
+    let certificate = terms.certificate;
+    let kind = terms.kind;
     match certificate {
         Certificate::None => Class::Baseline,
         Certificate::Etii { effective_day } => {
@@ -176,6 +195,63 @@ pub fn class_of(contract: Contract, first: u32) -> Class
             } else {
                 Class::Baseline
             }
+        }
+    }
+}
+
+// The kind, with its days, of a contract's bill with that first day: a bill that starts after the original end takes the amended pair.
+fn kind_taken(amendment: Amendment, kind: Kind, first: u32) -> Kind
+    ensures { λ r. ⌜ r ≡ kindTaken amendment kind first ⌝ }
+{
+    match amendment {
+        Amendment::Unamended => kind,
+        Amendment::Amended {
+            original_end,
+            price_fix_day,
+            entry_day,
+        } => {
+            if first <= original_end {
+                kind
+            } else {
+                Kind::Fixed {
+                    price_fix_day,
+                    entry_day,
+                }
+            }
+        }
+    }
+}
+
+// The terms of a contract's bill with that first day.
+pub fn terms_for(contract: Contract, first: u32) -> Terms
+    ensures { λ r. ⌜ r ≡ termsFor contract first ⌝ }
+{
+    let fuel = contract.fuel;
+    let kind = contract.kind;
+    let certificate = contract.certificate;
+    let amendment = contract.amendment;
+    Terms {
+        fuel,
+        kind: kind_taken(amendment, kind, first),
+        certificate,
+    }
+}
+
+// Whether a span starts on or before the original end and ends after it.
+pub fn crosses_end(amendment: Amendment, first: u32, last: u32) -> bool
+    ensures { λ r. ⌜ r ≡ crossesEnd amendment first last ⌝ }
+{
+    match amendment {
+        Amendment::Unamended => false,
+        Amendment::Amended {
+            original_end,
+            price_fix_day: _,
+            entry_day: _,
+        } => {
+            if first <= original_end {
+                return original_end < last;
+            }
+            false
         }
     }
 }

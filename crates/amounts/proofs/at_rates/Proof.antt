@@ -1,7 +1,7 @@
 -- `at_rates` is the amount: the kWh in each class at its rate are what the bill comes to at the rates.
 use mathlib.Core.Path.{_≡_, sym}
 use Prim.Native.Nat.{ℕ, _+_, _*_}
-use Rattle.rates.specs.declared.Contract.{Contract}
+use Rattle.rates.specs.declared.Terms.{Terms}
 use Rattle.rates.specs.declared.Class.the-variants.{Baseline, Etii, QhsOld, QhsNew}
 use Rattle.amounts.specs.declared.Bill.{Bill}
 use Rattle.amounts.specs.declared.KwhByClass.{KwhByClass}
@@ -11,17 +11,17 @@ use borrow.Author.Needs.{needs}
 use Rattle.amounts.proofs.at_rates.Statement.{statement}
 use Rattle.amounts.proofs.at_rates.Tie as tie
 
-four-amounts : (contract : Contract) (bill : Bill) (k : KwhByClass) (baseline etii old new : ℕ) → KwhOf contract bill k
-    → baseline ≡ k .baseline * rateOf contract bill Baseline → etii ≡ k .etii * rateOf contract bill Etii → old ≡ k .old * rateOf contract bill QhsOld → new ≡ k .new * rateOf contract bill QhsNew
-    → baseline + etii + old + new ≡ amount contract bill
+four-amounts : (terms : Terms) (bill : Bill) (k : KwhByClass) (baseline etii old new : ℕ) → KwhOf terms bill k
+    → baseline ≡ k .baseline * rateOf terms bill Baseline → etii ≡ k .etii * rateOf terms bill Etii → old ≡ k .old * rateOf terms bill QhsOld → new ≡ k .new * rateOf terms bill QhsNew
+    → baseline + etii + old + new ≡ amount terms bill
 unfolding amount
-four-amounts contract bill k baseline etii old new of e f g h = rw (e, f, g, h) (sym (of .priced (rateOf contract bill)))
+four-amounts terms bill k baseline etii old new of e f g h = rw (e, f, g, h) (sym (of .priced (rateOf terms bill)))
 
 returns : tie.Need-returns
 returns c =
     let third = c .before .before in
     let start = third .before .before in
-    four-amounts (start .args .contract) (start .args .bill) (start .args .kwh) _ _ _ _ (start .pre .1) (third .before .at-rate .ensures .0) (third .at-rate2 .ensures .0) (c .before .at-rate3 .ensures .0) (c .at-rate4 .ensures .0)
+    four-amounts (start .args .terms) (start .args .bill) (start .args .kwh) _ _ _ _ (start .pre .1) (third .before .at-rate .ensures .0) (third .at-rate2 .ensures .0) (c .before .at-rate3 .ensures .0) (c .at-rate4 .ensures .0)
 
 pub at-rates-spec : {M : Type 1} → statement M
 at-rates-spec =

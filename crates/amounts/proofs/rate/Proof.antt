@@ -11,13 +11,13 @@ returns : tie.Need-returns
 unfolding rate
 returns c =
     let start = c .before .before .before in
-    rw (set-aside (start .args .contract) (start .args .bill) (sym (c .before .before .has-shares .ensures) ∙ c .before .if1 .taken)) (c .class-rate .ensures)
+    rw (set-aside (start .args .terms) (start .args .bill) (sym (c .before .before .has-shares .ensures) ∙ c .before .if1 .taken)) (c .class-rate .ensures)
 
 returns-2 : tie.Need-returns-2
 unfolding rate classOf
 returns-2 c =
     let found = c .before .before .before in
-    rw (certificate-kept (found .before .args .contract) (found .before .args .bill) (sym (found .has-shares .ensures) ∙ c .before .before .if1 .left)) (cc)
+    rw (certificate-kept (found .before .args .terms) (found .before .args .bill) (sym (found .has-shares .ensures) ∙ c .before .before .if1 .left)) (cc)
 
 pub rate-spec : {M : Type 1} → statement M
 rate-spec =

@@ -8,7 +8,7 @@ returns : tie.Need-returns
 returns c =
     let found = c .before .before .before in
     let start = found .before .before in
-    kwh-shares (start .args .contract) (start .args .bill) (start .pre .0) (start .pre .1) _ (found .with-new-minimum .ensures .0)
+    kwh-shares (start .args .terms) (start .args .bill) (start .pre .0) (start .pre .1) _ (found .with-new-minimum .ensures .0)
 
 pub shares-by-class-spec : {M : Type 1} → statement M
 shares-by-class-spec =
