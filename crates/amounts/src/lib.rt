@@ -2,9 +2,9 @@
 use limits::NEW_MINIMUM_DAY;
 use rates::Certificate;
 use rates::Class;
-use rates::Terms;
 use rates::Fuel;
 use rates::Kind;
+use rates::Terms;
 use rates::class_of;
 use rates::class_rate;
 use rates::greater;

@@ -1,9 +1,10 @@
 // A contract in its bytes.
 use layout::CONTRACT_LENGTH;
 use rates::Contract;
-use records::numbers::get;
+use records::numbers::get_window;
 use records::numbers::put_all;
 use rules::codes;
+use rules::ranges::ContractNumbers;
 use rules::ranges::contract_ranges;
 ghost use mathlib.Core.Path.{_≡_};
 ghost use mathlib.Core.Bool.{not};
@@ -26,7 +27,9 @@ const DAY_BITS: usize = 10;
 
 const CLASS_BITS: usize = 2;
 
-const ZERO_BITS: usize = 4;
+const FLAG_BITS: usize = 1;
+
+const ZERO_BITS: usize = 5;
 
 // The first bit of each field, after the bit that says whether the contract is open, and of the zeros.
 const FUEL_AT: usize = 1;
@@ -41,10 +44,22 @@ const CLASS_AT: usize = ENTRY_AT + DAY_BITS;
 
 const EFFECTIVE_AT: usize = CLASS_AT + CLASS_BITS;
 
-const ZEROS_AT: usize = EFFECTIVE_AT + DAY_BITS;
+const FLAG_AT: usize = EFFECTIVE_AT + DAY_BITS;
+
+const ORIGINAL_END_AT: usize = FLAG_AT + FLAG_BITS;
+
+const AMENDED_PRICE_FIX_AT: usize = ORIGINAL_END_AT + DAY_BITS;
+
+const AMENDED_ENTRY_AT: usize = AMENDED_PRICE_FIX_AT + DAY_BITS;
+
+const ZEROS_AT: usize = AMENDED_ENTRY_AT + DAY_BITS;
+
+// The first byte of the window of eight bytes that ends with the slot's last byte and holds the amendment's entry day and the zeros; the
+// fields before them are in the first eight bytes.
+const LAST_WINDOW: usize = CONTRACT_LENGTH - 8;
 
 // How many numbers a slot has, and their widths.
-const NUMBERS: usize = 8;
+const NUMBERS: usize = 12;
 
 const WIDTHS: [usize; NUMBERS] = [
     1,
@@ -54,6 +69,10 @@ const WIDTHS: [usize; NUMBERS] = [
     DAY_BITS,
     CLASS_BITS,
     DAY_BITS,
+    FLAG_BITS,
+    DAY_BITS,
+    DAY_BITS,
+    DAY_BITS,
     ZERO_BITS,
 ];
 
@@ -62,7 +81,7 @@ pub fn is_open(s: &[u8]) -> bool
     requires { ⌜ length (now s) ≡ contractLength ⌝ }
     ensures { λ r. ⌜ r ≡ isTaken contractRecord (now (s .entry)) ⌝ }
 {
-    get(s, 0, 1) != 0
+    get_window(s, 0, 0, 1) != 0
 }
 
 // The contract that a slot holds.
@@ -71,15 +90,21 @@ pub fn unpack_contract(s: &[u8]) -> Contract
     ensures { λ r. ⌜ r ≡ recordIn contractRecord (now (s .entry)) ⌝ }
 {
     Contract {
-        fuel: codes::fuel_of(get(s, FUEL_AT, FUEL_BITS)),
+        fuel: codes::fuel_of(get_window(s, 0, FUEL_AT, FUEL_BITS)),
         kind: codes::kind_of(
-            get(s, KIND_AT, KIND_BITS),
-            get(s, PRICE_FIX_AT, DAY_BITS),
-            get(s, ENTRY_AT, DAY_BITS),
+            get_window(s, 0, KIND_AT, KIND_BITS),
+            get_window(s, 0, PRICE_FIX_AT, DAY_BITS),
+            get_window(s, 0, ENTRY_AT, DAY_BITS),
         ),
         certificate: codes::certificate_of(
-            get(s, CLASS_AT, CLASS_BITS),
-            get(s, EFFECTIVE_AT, DAY_BITS),
+            get_window(s, 0, CLASS_AT, CLASS_BITS),
+            get_window(s, 0, EFFECTIVE_AT, DAY_BITS),
+        ),
+        amendment: codes::amendment_of(
+            get_window(s, 0, FLAG_AT, FLAG_BITS),
+            get_window(s, 0, ORIGINAL_END_AT, DAY_BITS),
+            get_window(s, 0, AMENDED_PRICE_FIX_AT, DAY_BITS),
+            get_window(s, LAST_WINDOW, AMENDED_ENTRY_AT, DAY_BITS),
         ),
     }
 }
@@ -91,6 +116,7 @@ fn slot_numbers(contract: Contract) -> [u64; NUMBERS]
     let fuel = contract.fuel;
     let kind = contract.kind;
     let certificate = contract.certificate;
+    let amendment = contract.amendment;
     [
         1,
         codes::fuel_code(fuel) as u64,
@@ -99,6 +125,10 @@ fn slot_numbers(contract: Contract) -> [u64; NUMBERS]
         codes::entry_day(kind) as u64,
         codes::class_code(certificate) as u64,
         codes::effective_day(certificate) as u64,
+        codes::amendment_flag(amendment) as u64,
+        codes::original_end(amendment) as u64,
+        codes::amended_price_fix_day(amendment) as u64,
+        codes::amended_entry_day(amendment) as u64,
         0,
     ]
 }
@@ -118,7 +148,7 @@ fn padding_set(s: &[u8]) -> bool
     requires { ⌜ length (now s) ≡ contractLength ⌝ }
     ensures { λ r. ⌜ r ≡ not (allZero (drop (suc (length (contractRecord .widths))) (slotNumbers contractRecord (now (s .entry))))) ⌝ }
 {
-    get(s, ZEROS_AT, ZERO_BITS) != 0
+    get_window(s, LAST_WINDOW, ZEROS_AT, ZERO_BITS) != 0
 }
 
 // The numbers of an open contract's slot keep their ranges.
@@ -126,15 +156,19 @@ fn in_ranges(s: &[u8], territory: u32) -> bool
     requires { ⌜ length (now s) ≡ contractLength ⌝ }
     ensures { λ r. ⌜ r ≡ contractRanges territory (recordFields contractRecord (slotNumbers contractRecord (now (s .entry)))) ⌝ }
 {
-    contract_ranges(
-        territory,
-        get(s, FUEL_AT, FUEL_BITS),
-        get(s, KIND_AT, KIND_BITS),
-        get(s, PRICE_FIX_AT, DAY_BITS),
-        get(s, ENTRY_AT, DAY_BITS),
-        get(s, CLASS_AT, CLASS_BITS),
-        get(s, EFFECTIVE_AT, DAY_BITS),
-    )
+    let numbers = ContractNumbers {
+        fuel: get_window(s, 0, FUEL_AT, FUEL_BITS),
+        kind: get_window(s, 0, KIND_AT, KIND_BITS),
+        price_fix_day: get_window(s, 0, PRICE_FIX_AT, DAY_BITS),
+        entry_day: get_window(s, 0, ENTRY_AT, DAY_BITS),
+        class: get_window(s, 0, CLASS_AT, CLASS_BITS),
+        effective_day: get_window(s, 0, EFFECTIVE_AT, DAY_BITS),
+        amendment_flag: get_window(s, 0, FLAG_AT, FLAG_BITS),
+        original_end: get_window(s, 0, ORIGINAL_END_AT, DAY_BITS),
+        amended_price_fix_day: get_window(s, 0, AMENDED_PRICE_FIX_AT, DAY_BITS),
+        amended_entry_day: get_window(s, LAST_WINDOW, AMENDED_ENTRY_AT, DAY_BITS),
+    };
+    contract_ranges(territory, numbers)
 }
 
 // All of the slot is zero.

@@ -9,6 +9,7 @@ use Rattle.fields.specs.Fields.{Fit}
 use Rattle.records.specs.Pack.{size}
 use Rattle.records.specs.Slots.{RecordLaws}
 use Rattle.rates.specs.declared.Contract.{Contract}
+use Rattle.rates.specs.TermsTaken.{termsFor}
 use Rattle.amounts.proofs.AmountBounds.{amount-bits}
 use Rattle.model.specs.declared.Row.{Row}
 use Rattle.model.specs.Codes.{classCode}
@@ -16,8 +17,8 @@ use Rattle.model.specs.Contracts.{Contracts, contractOf}
 use Rattle.model.specs.Rules.{partOfDue}
 use Rattle.model.specs.PresentRules.{contractOk, contractRanges}
 use Rattle.model.specs.WellFormed.{RowOk}
-use Rattle.model.proofs.Codes.{fuel-of-code, kind-of-code, certificate-of-code}
-use Rattle.model.proofs.AcceptedBill.{span-days, kind-low, days-low, effective-low}
+use Rattle.model.proofs.Codes.{fuel-of-code, kind-of-code, certificate-of-code, amendment-of-numbers}
+use Rattle.model.proofs.AcceptedBill.{span-days, kind-low, days-low, effective-low, amendment-low}
 use Rattle.model.proofs.PresentRules.{contract-ranges, contract-numbers, bill-ranges}
 use Rattle.layout.specs.Layout.{rowTest}
 use Rattle.layout.specs.Layout as Layout
@@ -43,13 +44,14 @@ contract-fits t k e =
     let days = days-low _ _ _ (r .days) in
     let class : classCode (k .certificate) ≤ 2 = lt-no 2 _ (r .class) in
     let effective = effective-low _ _ (r .effective) in
-    omega arith
+    let amendment = amendment-low _ _ _ _ _ (r .amendment) in
+    omega (arith, amendment .0, amendment .1 .0, amendment .1 .1 .0, amendment .1 .1 .1)
 
 contract-laws : (t : ℕ) → RecordLaws contractRecord (contractRanges t)
 unfolding size contractOk
 contract-laws t = record {
   aligned = refl;
-  of-values = λ k e. rw (fuel-of-code (k .fuel), kind-of-code (k .kind), certificate-of-code (k .certificate));
+  of-values = λ k e. rw (fuel-of-code (k .fuel), kind-of-code (k .kind), certificate-of-code (k .certificate), amendment-of-numbers (k .amendment));
   values-of = λ v l e. contract-numbers t v e ∙ listed-elements (length (contractRecord .widths)) v l;
   fits = contract-fits t;
 }
@@ -62,7 +64,7 @@ row-fits cs x o =
     let k = contractOf cs (x .bill) in
     let r = bill-ranges k (x .bill) (o .ranges) in
     let days = span-days _ _ (r .span) in
-    omega (arith, o .number, o .part, r .rateable .kwh, r .rateable .shares, r .rateable .supply, amount-bits k (x .bill) (r .rateable))
+    omega (arith, o .number, o .part, r .rateable .kwh, r .rateable .shares, r .rateable .supply, amount-bits (termsFor k (x .bill .first)) (x .bill) (r .rateable))
 
 row-laws : (cs : Contracts) → RecordLaws rowRecord (rowTest rules layout cs)
 unfolding size

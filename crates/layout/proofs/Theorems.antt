@@ -9,21 +9,27 @@ use Rattle.fields.specs.Field.{value, bitsOf, bytesOfBits}
 use Rattle.fields.specs.Fields.{fieldBits}
 use Rattle.records.specs.Pack.{size, pack}
 use Rattle.basics.specs.Lists.{All}
-use Rattle.model.specs.Ledger.{fresh}
+use Rattle.model.specs.declared.Row.{Row}
+use Rattle.model.specs.declared.Call.{Call}
+use Rattle.model.specs.Calls.{CallWithBook, _with_}
+use Rattle.model.specs.Rules.{refusal}
+use Rattle.model.specs.Ledger.{Ledger, fresh, view, accept}
 use Rattle.model.specs.StoredEarlier.{RatedByDay}
 use Rattle.model.proofs.StoredEarlier.{by-day, stored-earlier}
 use Rattle.model.proofs.HoldsFacts.{bytes-hold}
 use Rattle.model.proofs.SheetAnswers.{bytes-answer-from-the-sheet, accepted-claim-leaves-rest}
 use Rattle.model.proofs.Postings.{bytes-same-as-postings}
+use Rattle.model.proofs.StaysWellFormed.{stays-act}
+use Rattle.model.proofs.Amendments.{every-amend-keeps-parts}
 use Rattle.model.proofs.BytesBalance.{bytes-balance, bytes-balance-goes-on, bytes-well-formed}
 use Rattle.layout.specs.Layout.{headerBytes, wellFormed, format}
 use Rattle.layout.specs.Offsets.{ledgerLength}
 use Rattle.layout.specs.Present.{rules, layout, Formed, facts, bytes, machine}
-use Rattle.layout.specs.Theorems.{PackedSize, FreshLedger, RoundTrips, ClaimsKept, AmountsKept, DemandThree, StoredLedgersBalance, PackedHistoriesHoldTheirFacts, PackedAnswersFromTheSheet, PackedSameAsPostings, NumberTwoMeetsNoCall, NumberTwoFirst}
+use Rattle.layout.specs.Theorems.{PackedSize, FreshLedger, RoundTrips, ClaimsKept, AmountsKept, DemandThree, StoredLedgersBalance, PackedHistoriesHoldTheirFacts, PackedAnswersFromTheSheet, PackedSameAsPostings, AmendAltersNoRow, NumberTwoMeetsNoCall, NumberTwoFirst}
 use Rattle.layout.proofs.RoundTrips.{unpacked-packed, well-formed-exactly}
 use Rattle.layout.proofs.Present.{present, format-laws, formed-length, facts-kept, repacked}
 use Rattle.layout.proofs.Changes.{fresh-parts}
-use Rattle.layout.proofs.Machine.{machine-malformed}
+use Rattle.layout.proofs.Machine.{machine-malformed, machine-refused, machine-accepted}
 
 pub packed-size : PackedSize
 packed-size = record { number = refl; formed = formed-length }
@@ -64,6 +70,26 @@ packed-histories-hold-their-facts = bytes-hold rules (present .rules) (format ru
 
 pub packed-same-as-postings : PackedSameAsPostings
 packed-same-as-postings = bytes-same-as-postings rules (present .rules) (format rules layout) format-laws
+
+rows-kept : (b : List ℕ) → Formed b → (c end fix entry : ℕ) (book : List ℕ) → facts (machine .step b (Call.Amend c end fix entry with book)) .rows ≡ facts b .rows
+unfolding accept
+rows-kept b f c end fix entry book = go (refusal rules (view (facts b)) call) refl
+  where
+    call : CallWithBook
+    call = Call.Amend c end fix entry with book
+
+    rows-of : List ℕ → List Row
+    rows-of after = facts after .rows
+
+    go : (n : ℕ) → refusal rules (view (facts b)) call ≡ n → facts (machine .step b call) .rows ≡ facts b .rows
+    go zero e =
+        let next = accept rules (facts b) call .next in
+        ap rows-of (machine-accepted present b call f e .left)
+        ∙ ap (λ (l : Ledger). l .rows) (unpacked-packed present next (stays-act rules (present .rules) (facts b) call (facts-kept b f) e))
+    go (suc n) e = ap rows-of (machine-refused present b call f (suc n) (omega arith) e .left)
+
+pub amend-alters-no-row : AmendAltersNoRow
+amend-alters-no-row = record { rows = rows-kept; parts = every-amend-keeps-parts rules (present .rules) }
 
 pub number-two-meets-no-call : NumberTwoMeetsNoCall
 number-two-meets-no-call = bytes-well-formed rules (present .rules) (format rules layout) format-laws

@@ -1,4 +1,4 @@
--- Document 01, "The packed ledger", with paper 1's rows: how many bytes a contract and a row take, and where they begin and end, by their
+-- Document 01, "The packed ledger", with paper 1's rows and paper 5's contracts: how many bytes a contract and a row take, and where they begin and end, by their
 -- fields. Assumes nothing.
 use mathlib.Core.List.{List}
 use Prim.Native.Nat.{ℕ, _+_, _*_, _/_}

@@ -1,4 +1,4 @@
--- Document 01, "The packed ledger", with paper 1's shares. Assumes nothing.
+-- Document 01, "The packed ledger", with paper 1's shares and paper 5's amendments. Assumes nothing.
 use mathlib.Core.List.{[], _∷_}
 use Rattle.records.specs.Slots.{RecordLayout}
 use Rattle.rates.specs.declared.Contract.{Contract}
@@ -8,11 +8,12 @@ use Rattle.model.specs.RowNumbers.{numbersOfRow, rowOfNumbers}
 use Rattle.model.specs.PresentRules.{contractRanges}
 use Rattle.layout.specs.Layout.{Layout}
 
--- after the bit open: fuel 1, kind 2, price-fix day 10, entry day 10, class 2, effective day 10, zeros 4
+-- after the bit open: fuel 1, kind 2, price-fix day 10, entry day 10, class 2, effective day 10; of the amendment a flag 1, original end day 10,
+-- price-fix day 10, entry day 10; zeros 5
 abbrev pub contractRecord : RecordLayout Contract
 contractRecord = record {
-  widths = 1 ∷ 2 ∷ 10 ∷ 10 ∷ 2 ∷ 10 ∷ [];
-  zeros = 4 ∷ [];
+  widths = 1 ∷ 2 ∷ 10 ∷ 10 ∷ 2 ∷ 10 ∷ 1 ∷ 10 ∷ 10 ∷ 10 ∷ [];
+  zeros = 5 ∷ [];
   values = numbersOfContract;
   of = contractOfNumbers;
 }

@@ -7,7 +7,8 @@ use lib.ListN.{length, replicate}
 use Rattle.basics.specs.Lists.{All}
 use Rattle.amounts.specs.EarlierAmount.{earlierAmount}
 use Rattle.model.specs.declared.Answer.the-variants.{Refused}
-use Rattle.model.specs.Calls.{CallWithBook}
+use Rattle.model.specs.declared.Call.{Call}
+use Rattle.model.specs.Calls.{CallWithBook, _with_}
 use Rattle.model.specs.Ledger.{Ledger, fresh}
 use Rattle.model.specs.WellFormed.{WellFormed}
 use Rattle.model.specs.StoredEarlier.{rulesWith, RatedByDay}
@@ -16,12 +17,13 @@ use Rattle.model.specs.Balance.{EveryHistoryBalances, StoredBalanceGoesOn}
 use Rattle.model.specs.HoldsFacts.{EveryHistoryHoldsItsFacts}
 use Rattle.model.specs.SheetAnswers.{EveryAnswerFromTheSheet, EveryAcceptedClaimLeavesRest}
 use Rattle.model.specs.Postings.{SameAsPostings}
+use Rattle.model.specs.Amendments.{EveryAmendKeepsParts}
 use Rattle.layout.specs.Offsets.{ledgerLength}
 use Rattle.layout.specs.Present.{rules, Formed, facts, bytes, machine}
 
 -- the length of a packed ledger: as the contracts have it, and as a well-formed ledger has it
 pub record PackedSize : Type 0 where
-  pub number : ledgerLength ≡ 25928
+  pub number : ledgerLength ≡ 26184
   pub formed : (b : List ℕ) → Formed b → length b ≡ ledgerLength
 
 -- "A fresh ledger is zeros but for the territory bit", which is the first
@@ -70,6 +72,12 @@ PackedAnswersFromTheSheet = EveryAnswerFromTheSheet rules machine
 -- the move from postings: call by call the rate, the customer's signed amount and the pence of each claim are the posting module's
 abbrev pub PackedSameAsPostings : Type 0
 PackedSameAsPostings = SameAsPostings rules machine
+
+-- an amend "answers no numbers and alters no row": of a well-formed ledger, whatever numbers are given
+pub record AmendAltersNoRow : Type 0 where
+  pub rows : (b : List ℕ) → Formed b → (c end fix entry : ℕ) (book : List ℕ) → facts (machine .step b (Call.Amend c end fix entry with book)) .rows ≡ facts b .rows
+  -- and in every history it changes no bill's part of due
+  pub parts : EveryAmendKeepsParts rules
 
 -- number 2 comes before all others: whatever the bytes and the call, where the bytes aren't a well-formed ledger the call is turned down by
 -- number 2 and no byte is changed

@@ -8,7 +8,7 @@ use model::Row;
 pub const FIRST_CONTRACT: usize = 8;
 
 // How many bytes a contract takes.
-pub const CONTRACT_LENGTH: usize = 5;
+pub const CONTRACT_LENGTH: usize = 9;
 
 // The byte at which the rows begin.
 pub const FIRST_ROW: usize = FIRST_CONTRACT + CONTRACT_COUNT * CONTRACT_LENGTH;

@@ -223,7 +223,7 @@ module _ (R : Rules) (ok : RulesLaws R) where
     apart = w .apart;
   }
 
-  stays-act : (l : Ledger) (c : CallWithBook) → WellFormed R l → refusal R (viewL l) c ≡ 0 → WellFormed R (acceptL R l c .next)
+  pub stays-act : (l : Ledger) (c : CallWithBook) → WellFormed R l → refusal R (viewL l) c ≡ 0 → WellFormed R (acceptL R l c .next)
   unfolding acceptL
   stays-act l (Call.Open c fuel kind fix entry with book) w e = stays-open l c fuel kind fix entry book w e
   stays-act l (Call.Bill b with book) w e = stays-bill l b book w e

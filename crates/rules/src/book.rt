@@ -1,4 +1,4 @@
-// The price book: its test, a contract's reference price, and the bill with that price.
+// The price book: its test, the reference price of a bill by its terms, and the bill with that price.
 use crate::codes;
 use amounts::Bill;
 use limits::BOOK_LENGTH;
@@ -8,7 +8,9 @@ use model::Request;
 use rates::Contract;
 use rates::Fuel;
 use rates::Kind;
+use rates::Terms;
 use rates::greater;
+use rates::terms_for;
 ghost use mathlib.Core.Path.{_≡_};
 ghost use lib.ListN.{getD};
 ghost use Rattle.model.specs.Book.{bookIndex, reference};
@@ -70,12 +72,12 @@ fn price_at(book: &[u32], index: usize) -> u32
     0
 }
 
-// A contract's reference price: the weighted price of a flexible one, else the book's.
-pub fn reference(contract: Contract, first: u32, wap: u32, book: &[u32]) -> u32
-    ensures { λ r. ⌜ r ≡ reference contract first wap (now (book .entry)) ⌝ }
+// The reference price by the terms: the weighted price of a flexible contract, else the book's.
+pub fn reference(terms: Terms, first: u32, wap: u32, book: &[u32]) -> u32
+    ensures { λ r. ⌜ r ≡ reference terms first wap (now (book .entry)) ⌝ }
 {
-    let fuel = contract.fuel;
-    let kind = contract.kind;
+    let fuel = terms.fuel;
+    let kind = terms.kind;
     if codes::is_flexible(kind) {
         return wap;
     }
@@ -96,6 +98,7 @@ pub fn no_price(kind: Kind, reference: u32) -> bool
 pub fn bill_under(contract: Contract, request: Request, book: &[u32]) -> Bill
     ensures { λ r. ⌜ r ≡ billUnder contract request (now (book .entry)) ⌝ }
 {
+    let terms = terms_for(contract, request.first);
     Bill {
         contract: request.contract,
         first: request.first,
@@ -103,7 +106,7 @@ pub fn bill_under(contract: Contract, request: Request, book: &[u32]) -> Bill
         kwh: request.kwh,
         etii: request.etii,
         qhs: request.qhs,
-        reference: reference(contract, request.first, request.wap, book),
+        reference: reference(terms, request.first, request.wap, book),
         supply: request.supply,
     }
 }

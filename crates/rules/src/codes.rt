@@ -1,9 +1,10 @@
-// The numbers that stand for a fuel, a kind with its days and a certificate; flexible kinds and monthly ones.
+// The numbers that stand for a fuel, a kind with its days, a certificate and an amendment; fixed, flexible and monthly kinds.
+use rates::Amendment;
 use rates::Certificate;
 use rates::Fuel;
 use rates::Kind;
 ghost use mathlib.Core.Path.{_≡_};
-ghost use Rattle.model.specs.Codes.{fuelOf, fuelCode, kindOf, kindCode, priceFixDay, entryDay, isFlexible, isMonthly, certificateOf, classCode, effectiveDay};
+ghost use Rattle.model.specs.Codes.{fuelOf, fuelCode, kindOf, kindCode, priceFixDay, entryDay, isFixed, isFlexible, isMonthly, certificateOf, classCode, effectiveDay, amendmentOf, amendmentFlag, originalEnd, amendedPriceFixDay, amendedEntryDay, isAmended};
 
 pub fn fuel_of(code: u32) -> Fuel
     ensures { λ r. ⌜ r ≡ fuelOf code ⌝ }
@@ -80,6 +81,20 @@ pub fn entry_day(kind: Kind) -> u32
     }
 }
 
+pub fn is_fixed(kind: Kind) -> bool
+    ensures { λ r. ⌜ r ≡ isFixed kind ⌝ }
+{
+    match kind {
+        Kind::Fixed {
+            price_fix_day: _,
+            entry_day: _,
+        } => true,
+        Kind::Variable => false,
+        Kind::Flexible => false,
+        Kind::Index => false,
+    }
+}
+
 pub fn is_flexible(kind: Kind) -> bool
     ensures { λ r. ⌜ r ≡ isFlexible kind ⌝ }
 {
@@ -136,5 +151,84 @@ pub fn effective_day(certificate: Certificate) -> u32
         Certificate::None => 0,
         Certificate::Etii { effective_day } => effective_day,
         Certificate::Qhs { effective_day } => effective_day,
+    }
+}
+
+pub fn amendment_of(flag: u32, original_end: u32, price_fix_day: u32, entry_day: u32) -> Amendment
+    ensures { λ r. ⌜ r ≡ amendmentOf flag «original_end» «price_fix_day» «entry_day» ⌝ }
+{
+    if flag == 0 {
+        Amendment::Unamended
+    } else {
+        Amendment::Amended {
+            original_end,
+            price_fix_day,
+            entry_day,
+        }
+    }
+}
+
+pub fn amendment_flag(amendment: Amendment) -> u32
+    ensures { λ r. ⌜ r ≡ amendmentFlag amendment ⌝ }
+{
+    match amendment {
+        Amendment::Unamended => 0,
+        Amendment::Amended {
+            original_end: _,
+            price_fix_day: _,
+            entry_day: _,
+        } => 1,
+    }
+}
+
+pub fn original_end(amendment: Amendment) -> u32
+    ensures { λ r. ⌜ r ≡ originalEnd amendment ⌝ }
+{
+    match amendment {
+        Amendment::Unamended => 0,
+        Amendment::Amended {
+            original_end,
+            price_fix_day: _,
+            entry_day: _,
+        } => original_end,
+    }
+}
+
+pub fn amended_price_fix_day(amendment: Amendment) -> u32
+    ensures { λ r. ⌜ r ≡ amendedPriceFixDay amendment ⌝ }
+{
+    match amendment {
+        Amendment::Unamended => 0,
+        Amendment::Amended {
+            original_end: _,
+            price_fix_day,
+            entry_day: _,
+        } => price_fix_day,
+    }
+}
+
+pub fn amended_entry_day(amendment: Amendment) -> u32
+    ensures { λ r. ⌜ r ≡ amendedEntryDay amendment ⌝ }
+{
+    match amendment {
+        Amendment::Unamended => 0,
+        Amendment::Amended {
+            original_end: _,
+            price_fix_day: _,
+            entry_day,
+        } => entry_day,
+    }
+}
+
+pub fn is_amended(amendment: Amendment) -> bool
+    ensures { λ r. ⌜ r ≡ isAmended amendment ⌝ }
+{
+    match amendment {
+        Amendment::Unamended => false,
+        Amendment::Amended {
+            original_end: _,
+            price_fix_day: _,
+            entry_day: _,
+        } => true,
     }
 }

@@ -1,4 +1,4 @@
-// The ranges of document 01 and of papers 1 and 2: the tests of what a call gives, and of what a well-formed ledger holds.
+// The ranges of document 01 and of papers 1, 2 and 5: the tests of what a call gives, and of what a well-formed ledger holds.
 use crate::book::no_price;
 use crate::codes;
 use amounts::Bill;
@@ -11,8 +11,9 @@ use limits::MOST_KWH_STORED;
 use model::Request;
 use rates::Contract;
 use rates::Kind;
+use rates::crosses_end;
 ghost use mathlib.Core.Path.{_≡_};
-ghost use Rattle.model.specs.PresentRules.{badKind, badClass, badDays, badEffective, badSpan, badMonths, badAmounts, badShares, contractRanges, billOk};
+ghost use Rattle.model.specs.PresentRules.{badKind, badClass, badDays, badEffective, badAmendmentDays, badAmendment, notAmendable, badSpan, badMonths, badAmounts, badShares, contractRanges, billOk};
 ghost use mathlib.Core.List.{[], _∷_};
 
 // A fuel or kind code has no meaning, or kind 3 is given outside its place.
@@ -76,6 +77,34 @@ pub fn bad_effective(class: u32, effective_day: u32) -> bool
     effective_day < FIRST_SCHEME_DAY
 }
 
+// An original end is no day of the scheme, or an amendment's price-fix or entry day is after the last day.
+pub fn bad_amendment_days(original_end: u32, price_fix_day: u32, entry_day: u32) -> bool
+    ensures { λ r. ⌜ r ≡ badAmendmentDays «original_end» «price_fix_day» «entry_day» ⌝ }
+{
+    if original_end < FIRST_SCHEME_DAY {
+        return true;
+    }
+    if LAST_DAY < original_end {
+        return true;
+    }
+    if LAST_DAY < price_fix_day {
+        return true;
+    }
+    LAST_DAY < entry_day
+}
+
+// A contract isn't fixed or is amended already.
+pub fn not_amendable(contract: Contract) -> bool
+    ensures { λ r. ⌜ r ≡ notAmendable contract ⌝ }
+{
+    let kind = contract.kind;
+    let amendment = contract.amendment;
+    if codes::is_fixed(kind) {
+        return codes::is_amended(amendment);
+    }
+    true
+}
+
 // Not the scheme's first day ≤ first ≤ last ≤ the last day.
 pub fn bad_span(first: u32, last: u32) -> bool
     ensures { λ r. ⌜ r ≡ badSpan first last ⌝ }
@@ -129,28 +158,71 @@ pub fn bad_shares(kwh: u32, etii: u32, qhs: u32) -> bool
     (kwh as u64) < etii as u64 + qhs as u64
 }
 
-// The numbers of an open contract keep the ranges.
-pub fn contract_ranges(
-    territory: u32,
-    fuel: u32,
+// A clear flag has a day that is not 0; or a set one is on a contract that is not fixed, or has a day out of its range.
+fn bad_amendment(
     kind: u32,
+    flag: u32,
+    original_end: u32,
     price_fix_day: u32,
     entry_day: u32,
-    class: u32,
-    effective_day: u32,
 ) -> bool
-    ensures { λ r. ⌜ r ≡ contractRanges territory (fuel ∷ kind ∷ «price_fix_day» ∷ «entry_day» ∷ class ∷ «effective_day» ∷ []) ⌝ }
+    ensures { λ r. ⌜ r ≡ badAmendment kind flag «original_end» «price_fix_day» «entry_day» ⌝ }
 {
-    if bad_kind(territory, fuel, kind) {
+    if flag == 0 {
+        if original_end != 0 {
+            return true;
+        }
+        if price_fix_day != 0 {
+            return true;
+        }
+        return entry_day != 0;
+    }
+    if 1 < flag {
+        return true;
+    }
+    if kind == 0 {
+        return bad_amendment_days(original_end, price_fix_day, entry_day);
+    }
+    true
+}
+
+// The numbers of a contract's slot.
+pub struct ContractNumbers {
+    pub fuel: u32,
+    pub kind: u32,
+    pub price_fix_day: u32,
+    pub entry_day: u32,
+    pub class: u32,
+    pub effective_day: u32,
+    pub amendment_flag: u32,
+    pub original_end: u32,
+    pub amended_price_fix_day: u32,
+    pub amended_entry_day: u32,
+}
+
+// The numbers of an open contract keep the ranges.
+pub fn contract_ranges(territory: u32, numbers: ContractNumbers) -> bool
+    ensures { λ r. ⌜ r ≡ contractRanges territory (numbers .fuel ∷ numbers .kind ∷ numbers .«price_fix_day» ∷ numbers .«entry_day» ∷ numbers .class ∷ numbers .«effective_day» ∷ numbers .«amendment_flag» ∷ numbers .«original_end» ∷ numbers .«amended_price_fix_day» ∷ numbers .«amended_entry_day» ∷ []) ⌝ }
+{
+    if bad_kind(territory, numbers.fuel, numbers.kind) {
         return false;
     }
-    if bad_days(kind, price_fix_day, entry_day) {
+    if bad_days(numbers.kind, numbers.price_fix_day, numbers.entry_day) {
         return false;
     }
-    if bad_class(class) {
+    if bad_class(numbers.class) {
         return false;
     }
-    !bad_effective(class, effective_day)
+    if bad_effective(numbers.class, numbers.effective_day) {
+        return false;
+    }
+    !bad_amendment(
+        numbers.kind,
+        numbers.amendment_flag,
+        numbers.original_end,
+        numbers.amended_price_fix_day,
+        numbers.amended_entry_day,
+    )
 }
 
 // A held row's bill keeps the ranges under its contract.
@@ -173,5 +245,9 @@ pub fn bill_ok(contract: Contract, bill: Bill) -> bool
         return false;
     }
     let kind = contract.kind;
-    !no_price(kind, bill.reference)
+    if no_price(kind, bill.reference) {
+        return false;
+    }
+    let amendment = contract.amendment;
+    !crosses_end(amendment, bill.first, bill.last)
 }

@@ -1,4 +1,4 @@
--- `reference` is the contract's reference price: by whether it is flexible.
+-- `reference` is the reference price by the terms: by whether they are flexible.
 use Rattle.model.specs.Book.{reference}
 use Rattle.rules.proofs.Prices.{prices}
 use borrow.Author.Needs.{needs}

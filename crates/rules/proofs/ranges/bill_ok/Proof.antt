@@ -18,4 +18,6 @@ bill-ok-spec =
     (λ c. search chain depth 20 fits 20000)
     (λ c. search chain depth 20 fits 20000)
     (λ c κs. search needs)
+    (λ c. search chain depth 20 fits 20000)
+    (λ c κs. search needs)
     (λ c. search chain depth 20 fits 20000))

@@ -17,4 +17,6 @@ contract-ranges-spec =
     (λ c κs. search needs)
     (λ c. search chain depth 20 fits 20000)
     (λ c κs. search needs)
+    (λ c. search chain depth 20 fits 20000)
+    (λ c κs. search needs)
     (λ c. search chain depth 20 fits 20000))
