@@ -42,6 +42,7 @@ fn fixed_price_contract_baseline_support() {
         fuel: Fuel::Electricity,
         kind: fixed_on(2022, 12, 3),
         certificate: Certificate::None,
+        amendment: None,
     };
     let bill = Bill {
         first_day: SCHEME_START_DAY,
@@ -63,6 +64,7 @@ fn fixed_price_contract_etii_support() {
         fuel: Fuel::Electricity,
         kind: fixed_on(2022, 10, 9),
         certificate: ETII_FROM_START,
+        amendment: None,
     };
     let bill = Bill {
         first_day: SCHEME_START_DAY,
@@ -92,6 +94,7 @@ fn fixed_price_contract_qhs_support() {
         fuel: Fuel::Gas,
         kind: fixed_on(2022, 12, 28),
         certificate: QHS_FROM_INTRODUCTION,
+        amendment: None,
     };
     let bill = Bill {
         first_day: SCHEME_INTRODUCTION_DAY,
@@ -119,6 +122,7 @@ fn variable_price_contract_qhs_support() {
         fuel: Fuel::Gas,
         kind: Kind::Variable,
         certificate: QHS_FROM_INTRODUCTION,
+        amendment: None,
     };
     let bill = Bill {
         first_day: day_number(2024, 2, 1).expect("the day is in the range"),
@@ -140,6 +144,7 @@ fn variable_price_contract_baseline_support() {
         fuel: Fuel::Electricity,
         kind: Kind::Variable,
         certificate: Certificate::None,
+        amendment: None,
     };
     for reference_price in [0, 18_500, 30_199, 30_200] {
         for supply_price in [33_730, 40_000, 999_999] {
@@ -163,6 +168,7 @@ fn flexible_price_contract_baseline_support() {
         fuel: Fuel::Electricity,
         kind: Kind::Flexible,
         certificate: Certificate::None,
+        amendment: None,
     };
     let bill = Bill {
         first_day: SCHEME_START_DAY,
@@ -183,6 +189,7 @@ fn flexible_price_contract_etii_support() {
         fuel: Fuel::Electricity,
         kind: Kind::Flexible,
         certificate: ETII_FROM_START,
+        amendment: None,
     };
     let bill = Bill {
         first_day: SCHEME_START_DAY,
@@ -205,6 +212,7 @@ fn blend_and_extend_lowers_only_the_supply_price() {
         fuel: Fuel::Electricity,
         kind: fixed_on(2022, 12, 3),
         certificate: Certificate::None,
+        amendment: None,
     };
     for (supply_price, expected) in [(60_000, 19_610), (29_000, 0), (31_200, 10_000)] {
         let bill = Bill {
@@ -236,6 +244,7 @@ fn intermediary_discount_apportionment() {
             fuel: Fuel::Gas,
             kind: Kind::Flexible,
             certificate,
+            amendment: None,
         };
         let bill = Bill {
             first_day: SCHEME_INTRODUCTION_DAY,
@@ -261,6 +270,7 @@ fn intermediary_discount_on_one_bill() {
         fuel: Fuel::Gas,
         kind: Kind::Flexible,
         certificate: Certificate::None,
+        amendment: None,
     };
     let bill = Bill {
         first_day: SCHEME_INTRODUCTION_DAY,

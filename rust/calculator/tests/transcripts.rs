@@ -84,6 +84,13 @@ fn names_spaces_and_counts() {
         b"rebill 0 486 515 1 1 1",
         b"rebill 0 486 515 1 1 1 0",
         b"rebill 0 486 515 1 1 1 0 0 0",
+        b"amend",
+        b"amend 0 486 0",
+        b"amend 0 486 0 0 0",
+        b"Amend 0 486 0 0",
+        b"amends 0 486 0 0",
+        b"amend 0 486 0 00",
+        b"amend 0 486 0 4294967296",
     ]);
 }
 
