@@ -134,6 +134,15 @@ fn days_and_dates() {
 }
 
 #[test]
+fn amend_answers_no_numbers() {
+    let opened = "price 7 30300\nprice 530 30400\nopen 0 0 0 7 8\n";
+    let amend = "amend 0 600 530 531\n";
+    let bills = "bill 0 600 600 1 99999 0 0 0\nbill 0 601 601 1 99999 0 0 0\n";
+    let output = "ok\nok\nok\nok\nok 30300 1000 1000\nok 30400 2000 2000\nrefused 16\n";
+    assert_eq!(printed(&format!("{opened}{amend}{bills}{amend}")), output);
+}
+
+#[test]
 fn start_keeps_the_book_and_a_refused_price_changes_nothing() {
     let prices = "price 1739 0\nprice 1740 0\nprice 1716 999999\nprice 1716 1000000\n";
     assert_eq!(printed(prices), "ok\nrefused 8\nok\nrefused 8\n");
