@@ -238,7 +238,7 @@ fn price_and_rate(contract: &Contract, (year, month): (u32, u32), supply_price: 
     book[day(2023, 5, 15) as usize] = AMENDED_PRICE;
     let first_day = day(year, month, 1);
     let entry = entry_needed(contract, first_day).expect("a fixed contract needs an entry");
-    let last_days = (28..=31).filter_map(|day| day_number(year, month, day));
+    let last_days = (28..=31).filter_map(|last| day_number(year, month, last));
     let bill = Bill {
         first_day,
         last_day: last_days.last().expect("the month is in the range"),
@@ -273,8 +273,9 @@ fn check_blend_and_extend(blended: i64, until_original_end: i64, after_original_
 }
 
 /// Section 3.4, "Illustrative Examples", example 1 of blend and extend: the maximum discount
-/// before and after the amendment. The guidance's text gives the examples no price and no date
-/// but 1 June 2023, so the others are chosen here.
+/// before and after 1 June 2023, "for the duration of the scheme" where the original term lasts
+/// as long. The guidance's text gives the examples no price and no other date, so these are
+/// chosen here.
 #[test]
 fn blend_and_extend_without_engaging_the_threshold() {
     check_blend_and_extend(60_000, 19_610, 5_000);
