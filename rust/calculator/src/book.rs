@@ -29,7 +29,7 @@ pub fn is_usable(book: &[u32]) -> bool {
 pub fn entry_needed(contract: &Contract, first_day: u32) -> Option<usize> {
     let month = scheme_month(first_day)?;
     let fuel = contract.fuel.code();
-    let entry = match contract.kind {
+    let entry = match contract.kind_of_bill(first_day) {
         Kind::Fixed { price_fix_day, .. } => fuel * FIXED_ENTRIES + price_fix_day,
         Kind::Variable => FIRST_VARIABLE_ENTRY + fuel * SCHEME_MONTHS + month,
         Kind::DayAheadIndex => FIRST_INDEX_ENTRY + month,

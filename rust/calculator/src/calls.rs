@@ -1,5 +1,5 @@
 //! The calls with their numbers (document 01, section "Calls"; bill and rebill are those of
-//! document 02, paper 1), and those that read no ledger.
+//! document 02, paper 1, and amend is that of its paper 5), and those that read no ledger.
 
 use crate::dates::{date_of, day_number};
 use crate::refusals::WRONG_DAY;
@@ -50,6 +50,14 @@ pub enum Call {
         contract: u32,
     },
     Total,
+    Amend {
+        contract: u32,
+        original_end_day: u32,
+        /// The amendment's price-fix day.
+        price_fix_day: u32,
+        /// The amendment's entry day.
+        entry_day: u32,
+    },
 }
 
 /// The numbers answered, in the paper's order; or the refusal's number.
@@ -127,6 +135,12 @@ impl Call {
             ("claim", &[]) => Call::Claim,
             ("report", &[contract]) => Call::Report { contract },
             ("total", &[]) => Call::Total,
+            ("amend", &[contract, original_end_day, price_fix_day, entry_day]) => Call::Amend {
+                contract,
+                original_end_day,
+                price_fix_day,
+                entry_day,
+            },
             _ => return None,
         };
         Some(call)
@@ -144,6 +158,7 @@ impl Call {
             Call::Claim => "claim",
             Call::Report { .. } => "report",
             Call::Total => "total",
+            Call::Amend { .. } => "amend",
         }
     }
 
@@ -167,6 +182,12 @@ impl Call {
             Call::Cancel { contract, first } => vec![contract, first],
             Call::Report { contract } => vec![contract],
             Call::Claim | Call::Total => vec![],
+            Call::Amend {
+                contract,
+                original_end_day,
+                price_fix_day,
+                entry_day,
+            } => vec![contract, original_end_day, price_fix_day, entry_day],
         }
     }
 }

@@ -1,10 +1,10 @@
 //! Codes of territories, fuels, kinds and classes, and the ranges of days, kWh, prices and
 //! shares (document 01, sections "Contracts and the price book" and "Turned down, in
-//! checking order", numbers 6 to 8; document 02, paper 1, number 14, and paper 2,
-//! number 15).
+//! checking order", numbers 6 to 8; document 02, paper 1, number 14, paper 2, number 15, and
+//! paper 5, numbers 7, 16 and 17).
 
 use crate::dates::{scheme_month, LAST_DAY};
-use crate::rates::{Certificate, Fuel, Kind};
+use crate::rates::{Amendment, Certificate, Contract, Fuel, Kind};
 use std::ops::RangeInclusive;
 
 /// The territory of a ledger.
@@ -96,6 +96,14 @@ impl Kind {
         }
     }
 
+    /// Whether a contract of the kind is fixed, with its own price-fix and entry day.
+    pub fn is_fixed(self) -> bool {
+        match self {
+            Kind::Fixed { .. } => true,
+            Kind::Variable | Kind::Flexible | Kind::DayAheadIndex => false,
+        }
+    }
+
     /// Whether the kind's prices are published by the month: those of variable and index
     /// contracts are.
     pub fn has_monthly_prices(self) -> bool {
@@ -159,6 +167,14 @@ pub(crate) fn effective_day_in_range(certificate: Certificate, effective_day: u3
     certificate.effective_days().contains(&effective_day)
 }
 
+/// Number 7: whether an amendment's original end is 486 to 851, and its price-fix and entry day
+/// are at most 851.
+pub(crate) fn amendment_days_in_range(amendment: Amendment) -> bool {
+    (SCHEME_FIRST_DAY..=LAST_DAY).contains(&amendment.original_end_day)
+        && amendment.price_fix_day <= LAST_DAY
+        && amendment.entry_day <= LAST_DAY
+}
+
 /// Number 7: whether 486 ≤ first ≤ last ≤ 851.
 pub fn span_in_range(first_day: u32, last_day: u32) -> bool {
     SCHEME_FIRST_DAY <= first_day && first_day <= last_day && last_day <= LAST_DAY
@@ -168,6 +184,19 @@ pub fn span_in_range(first_day: u32, last_day: u32) -> bool {
 /// range, touches two scheme months.
 pub(crate) fn touches_two_months(kind: Kind, first_day: u32, last_day: u32) -> bool {
     kind.has_monthly_prices() && scheme_month(first_day) != scheme_month(last_day)
+}
+
+/// Number 16: whether a contract may be amended: it is fixed and not amended yet.
+pub(crate) fn may_be_amended(contract: &Contract) -> bool {
+    contract.kind.is_fixed() && contract.amendment.is_none()
+}
+
+/// Number 17: whether the contract is amended and the span starts on or before its original end
+/// and ends after it.
+pub(crate) fn crosses_original_end(contract: &Contract, first_day: u32, last_day: u32) -> bool {
+    contract.amendment.is_some_and(|amendment| {
+        first_day <= amendment.original_end_day && amendment.original_end_day < last_day
+    })
 }
 
 /// Number 14: whether the two shares exceed kWh. Their sum may need more than 32 bits.

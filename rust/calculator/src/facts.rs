@@ -12,8 +12,8 @@ pub const MOST_ROWS: usize = 1_024;
 /// The most claims made.
 pub const MOST_CLAIMS: u32 = 1_000;
 
-/// The territory, the open contracts with their certificates, the held rows, the claim count
-/// and the net pence.
+/// The territory, the open contracts with their certificates and amendments, the held rows, the
+/// claim count and the net pence.
 #[derive(Clone, Debug, PartialEq)]
 pub struct Facts {
     pub territory: Territory,

@@ -1,13 +1,13 @@
 //! The packed ledger's fields as numbers, whatever they are, and the bytes that they are
 //! packed in (document 01, section "The packed ledger"; the row is that of document 02,
-//! paper 1).
+//! paper 1, and the contract is that of its paper 5).
 
 use crate::bits::{BitReader, BitWriter};
 use crate::facts::{Row, CONTRACTS, MOST_ROWS};
-use crate::rates::{Bill, Certificate, Contract, Fuel, Kind};
+use crate::rates::{Amendment, Bill, Certificate, Contract, Fuel, Kind};
 
 /// The bytes of a ledger.
-pub const LEDGER_BYTES: usize = 25_928;
+pub const LEDGER_BYTES: usize = 26_184;
 
 /// The numbers of all fields of a ledger.
 #[derive(Clone, Debug, PartialEq)]
@@ -29,8 +29,19 @@ pub struct ContractNumbers {
     pub entry_day: u32,
     pub class: u32,
     pub effective_day: u32,
-    /// The four last bits.
+    pub amendment: AmendmentNumbers,
+    /// The five last bits.
     pub zeros: u32,
+}
+
+/// The numbers of the fields of a contract's amendment; by default zeros.
+#[derive(Clone, Copy, Debug, Default, PartialEq, Eq)]
+pub struct AmendmentNumbers {
+    /// The flag.
+    pub amended: bool,
+    pub original_end_day: u32,
+    pub price_fix_day: u32,
+    pub entry_day: u32,
 }
 
 /// The numbers of a row's fields; by default zeros.
@@ -102,7 +113,8 @@ impl ContractNumbers {
             entry_day: reader.take_number(10),
             class: reader.take_number(2),
             effective_day: reader.take_number(10),
-            zeros: reader.take_number(4),
+            amendment: AmendmentNumbers::read(reader),
+            zeros: reader.take_number(5),
         }
     }
 
@@ -114,7 +126,8 @@ impl ContractNumbers {
         writer.append(self.entry_day.into(), 10);
         writer.append(self.class.into(), 2);
         writer.append(self.effective_day.into(), 10);
-        writer.append(self.zeros.into(), 4);
+        self.amendment.write(writer);
+        writer.append(self.zeros.into(), 5);
     }
 
     /// The numbers of an open contract.
@@ -129,6 +142,7 @@ impl ContractNumbers {
             entry_day,
             class,
             effective_day,
+            amendment: AmendmentNumbers::of(contract.amendment),
             zeros: 0,
         }
     }
@@ -142,6 +156,47 @@ impl ContractNumbers {
             fuel: Fuel::of(self.fuel)?,
             kind: Kind::of(self.kind, self.price_fix_day, self.entry_day)?,
             certificate: Certificate::of(self.class, self.effective_day)?,
+            amendment: self.amendment.amendment(),
+        })
+    }
+}
+
+impl AmendmentNumbers {
+    fn read(reader: &mut BitReader) -> AmendmentNumbers {
+        AmendmentNumbers {
+            amended: reader.take_flag(),
+            original_end_day: reader.take_number(10),
+            price_fix_day: reader.take_number(10),
+            entry_day: reader.take_number(10),
+        }
+    }
+
+    fn write(&self, writer: &mut BitWriter) {
+        writer.append(self.amended.into(), 1);
+        writer.append(self.original_end_day.into(), 10);
+        writer.append(self.price_fix_day.into(), 10);
+        writer.append(self.entry_day.into(), 10);
+    }
+
+    /// The numbers of an amendment, zeros of an unamended contract.
+    fn of(amendment: Option<Amendment>) -> AmendmentNumbers {
+        let Some(amendment) = amendment else {
+            return AmendmentNumbers::default();
+        };
+        AmendmentNumbers {
+            amended: true,
+            original_end_day: amendment.original_end_day,
+            price_fix_day: amendment.price_fix_day,
+            entry_day: amendment.entry_day,
+        }
+    }
+
+    /// The amendment, or `None` if the flag is clear.
+    fn amendment(&self) -> Option<Amendment> {
+        self.amended.then_some(Amendment {
+            original_end_day: self.original_end_day,
+            price_fix_day: self.price_fix_day,
+            entry_day: self.entry_day,
         })
     }
 }

@@ -1,21 +1,23 @@
 //! The old posting module: it writes each bill, reversal and reissue as a signed posting and
-//! adds the postings up. It answers the calls of document 01, section "Calls", and refuses
-//! by numbers 3 to 13 of the section "Turned down, in checking order" and numbers 14 and 15
-//! of document 02, papers 1 and 2. Amounts are those of its paper 3.
+//! adds the postings up. It answers the calls of document 01, section "Calls", and amend of
+//! document 02, paper 5. It refuses by numbers 3 to 13 of document 01, section "Turned down, in
+//! checking order", and numbers 14 to 18 of document 02, papers 1, 2 and 5. Amounts are those of
+//! its paper 3.
 
 use crate::book;
 use crate::calls::{BillNumbers, Call, Outcome};
 use crate::codes::{
-    contract_days_in_range, effective_day_in_range, kind_in_its_place, shares_exceed_kwh,
-    span_in_range, spans_share_a_day, touches_two_months, Territory, HIGHEST_PRICE, MOST_KWH,
+    amendment_days_in_range, contract_days_in_range, crosses_original_end, effective_day_in_range,
+    kind_in_its_place, may_be_amended, shares_exceed_kwh, span_in_range, spans_share_a_day,
+    touches_two_months, Territory, HIGHEST_PRICE, MOST_KWH,
 };
 use crate::facts::{Facts, Row, CONTRACTS, MOST_CLAIMS, MOST_ROWS};
-use crate::rates::{self, Bill, Certificate, Contract, Fuel, Kind};
+use crate::rates::{self, Amendment, Bill, Certificate, Contract, Fuel, Kind};
 use crate::refusals::{
-    refuse_if, CLAIMS_USED_UP, CODE_WITHOUT_MEANING, CONTRACT_NUMBER_TOO_HIGH,
-    CONTRACT_OPEN_ALREADY_OR_NOT_OPEN, DAY_SHARED, NO_SUCH_ROW, NUMBER_OUT_OF_RANGE,
-    PRICE_NOT_PUBLISHED, ROWS_FULL, SHARES_EXCEED_KWH, SPAN_TOUCHES_TWO_MONTHS, WRONG_BOOK,
-    WRONG_DAY,
+    refuse_if, CLAIMS_USED_UP, CODE_WITHOUT_MEANING, CONTRACT_NOT_FIXED_OR_AMENDED_ALREADY,
+    CONTRACT_NUMBER_TOO_HIGH, CONTRACT_OPEN_ALREADY_OR_NOT_OPEN, DAY_SHARED, NO_SUCH_ROW,
+    NUMBER_OUT_OF_RANGE, PRICE_NOT_PUBLISHED, ROWS_FULL, ROW_ENDS_AFTER_ORIGINAL_END,
+    SHARES_EXCEED_KWH, SPAN_CROSSES_ORIGINAL_END, SPAN_TOUCHES_TWO_MONTHS, WRONG_BOOK, WRONG_DAY,
 };
 use std::collections::BTreeMap;
 
@@ -98,6 +100,19 @@ impl PostingModule {
             Call::Claim => self.claim(),
             Call::Report { contract } => self.report(contract),
             Call::Total => Ok(self.total()),
+            Call::Amend {
+                contract,
+                original_end_day,
+                price_fix_day,
+                entry_day,
+            } => {
+                let amendment = Amendment {
+                    original_end_day,
+                    price_fix_day,
+                    entry_day,
+                };
+                self.amend(contract, amendment)
+            }
         }
     }
 
@@ -128,6 +143,7 @@ impl PostingModule {
             fuel,
             kind,
             certificate: Certificate::None,
+            amendment: None,
         });
         Ok(vec![])
     }
@@ -206,6 +222,25 @@ impl PostingModule {
         vec![due, due - TICKS_PER_PENNY * self.pence_claimed]
     }
 
+    /// Writes no posting: every bill that stands ends on or before the original end, so that it
+    /// keeps its price-fix and entry day.
+    fn amend(&mut self, number: u32, amendment: Amendment) -> Outcome {
+        let mut contract = self.open_contract(number)?;
+        refuse_if(
+            !may_be_amended(&contract),
+            CONTRACT_NOT_FIXED_OR_AMENDED_ALREADY,
+        )?;
+        refuse_if(!amendment_days_in_range(amendment), WRONG_DAY)?;
+        let ends_after = |row: &Row| row.bill.last_day > amendment.original_end_day;
+        refuse_if(
+            self.bills_of(number).any(ends_after),
+            ROW_ENDS_AFTER_ORIGINAL_END,
+        )?;
+        contract.amendment = Some(amendment);
+        self.contracts[slot(number)?] = Some(contract);
+        Ok(vec![])
+    }
+
     /// The sum of the postings.
     fn due(&self) -> i64 {
         self.postings.iter().map(|posting| posting.amount).sum()
@@ -234,7 +269,7 @@ impl PostingModule {
         self.postings.push(Posting { contract, amount });
     }
 
-    /// The contract of a bill or rebill that numbers 3 to 8, 14 and 15 don't refuse.
+    /// The contract of a bill or rebill that numbers 3 to 8, 14, 15 and 17 don't refuse.
     fn billed_contract(&self, book: &[u32], numbers: BillNumbers) -> Result<Contract, u32> {
         refuse_if(!book::is_usable(book), WRONG_BOOK)?;
         let contract = self.open_contract(numbers.contract)?;
@@ -242,6 +277,10 @@ impl PostingModule {
         refuse_if(
             touches_two_months(contract.kind, numbers.first, numbers.last),
             SPAN_TOUCHES_TWO_MONTHS,
+        )?;
+        refuse_if(
+            crosses_original_end(&contract, numbers.first, numbers.last),
+            SPAN_CROSSES_ORIGINAL_END,
         )?;
         refuse_if(
             !bill_numbers_in_range(contract.kind, numbers),

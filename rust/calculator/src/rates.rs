@@ -1,6 +1,6 @@
 //! Discount rates of the scheme: Regulation 29's formula and the guidance's parameters.
-//! Bills with an ETII or a QHS share follow document 02, paper 1, and amounts are taken by
-//! day, as in its paper 3.
+//! Bills with an ETII or a QHS share follow document 02, paper 1, amounts are taken by day, as
+//! in its paper 3, and amended contracts follow its paper 5.
 //!
 //! Prices are in mils, thousandths of a penny per kWh; rates are in ticks, ten-thousandths
 //! of a penny per kWh (document 01, section "Prices per kWh"). Supply prices and reference
@@ -47,12 +47,43 @@ pub enum Certificate {
     Qhs { effective_day: u32 },
 }
 
+/// The amendment of a fixed contract that is repriced or extended before the end of its
+/// original fixed term (guidance, section 3.2, "Fixed Price Contracts extended into a new Fixed
+/// Price Contract").
+#[derive(Clone, Copy, Debug, PartialEq, Eq)]
+pub struct Amendment {
+    /// The last day of the original fixed term.
+    pub original_end_day: u32,
+    /// The price-fix day of bills that start after the original end.
+    pub price_fix_day: u32,
+    /// The entry day of bills that start after the original end.
+    pub entry_day: u32,
+}
+
 /// A supply contract, so far as it decides a rate.
 #[derive(Clone, Copy, Debug, PartialEq, Eq)]
 pub struct Contract {
     pub fuel: Fuel,
+    /// The kind, with the original price-fix and entry day if it is fixed.
     pub kind: Kind,
     pub certificate: Certificate,
+    /// Only a fixed contract has one.
+    pub amendment: Option<Amendment>,
+}
+
+impl Contract {
+    /// The kind, with the price-fix and entry day, of a bill that starts on the day: the
+    /// original days on or before the original end, the amendment's after it (guidance, section
+    /// 3.2, "Fixed Price Contracts extended into a new Fixed Price Contract").
+    pub fn kind_of_bill(&self, first_day: u32) -> Kind {
+        match self.amendment {
+            Some(amendment) if first_day > amendment.original_end_day => Kind::Fixed {
+                price_fix_day: amendment.price_fix_day,
+                entry_day: amendment.entry_day,
+            },
+            _ => self.kind,
+        }
+    }
 }
 
 /// A bill, so far as it decides a rate and an amount; by default zeros.
@@ -279,7 +310,7 @@ fn etii_parameters(fuel: Fuel) -> Parameters {
 /// QHS support: the supply price is brought down towards the QHS minimum, by at most the
 /// reference wholesale price (guidance, section 3.3, "Maximum Discount").
 fn qhs_parameters(contract: &Contract, first_day: u32) -> Parameters {
-    let new_minimum = new_qhs_minimum_applies(contract.kind, first_day);
+    let new_minimum = new_qhs_minimum_applies(contract, first_day);
     Parameters {
         support_price: QHS_SUPPORT_PRICE,
         maximum_discount: NO_MAXIMUM_DISCOUNT,
@@ -290,8 +321,8 @@ fn qhs_parameters(contract: &Contract, first_day: u32) -> Parameters {
 /// Whether the new QHS minimum applies to a bill that starts on the day: to energy supplied
 /// on or after 1 February 2024, but not under a fixed contract entered into before that day
 /// (guidance, section 3.1, "Minimum Supply Price").
-pub fn new_qhs_minimum_applies(kind: Kind, first_day: u32) -> bool {
-    let keeps_old_minimum = match kind {
+pub fn new_qhs_minimum_applies(contract: &Contract, first_day: u32) -> bool {
+    let keeps_old_minimum = match contract.kind_of_bill(first_day) {
         Kind::Fixed { entry_day, .. } => entry_day < NEW_QHS_MINIMUM_DAY,
         Kind::Variable | Kind::Flexible | Kind::DayAheadIndex => false,
     };

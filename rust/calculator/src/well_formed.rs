@@ -1,14 +1,14 @@
 //! The well-formed ledgers: one function for each clause of document 01, section "The packed
-//! ledger", paragraph "Well formed", and of document 02, papers 1 and 3. The clause on the
+//! ledger", paragraph "Well formed", and of document 02, papers 1, 3 and 5. The clause on the
 //! length stands with `packed::unpack`.
 
 use crate::codes::{
-    contract_days_in_range, effective_day_in_range, kind_in_its_place, shares_exceed_kwh,
-    span_in_range, Territory, HIGHEST_PRICE, MOST_KWH,
+    amendment_days_in_range, contract_days_in_range, crosses_original_end, effective_day_in_range,
+    kind_in_its_place, shares_exceed_kwh, span_in_range, Territory, HIGHEST_PRICE, MOST_KWH,
 };
 use crate::dates::LAST_DAY;
 use crate::facts::{CONTRACTS, MOST_CLAIMS};
-use crate::layout::{ContractNumbers, LedgerNumbers, RowNumbers};
+use crate::layout::{AmendmentNumbers, ContractNumbers, LedgerNumbers, RowNumbers};
 use crate::rates::{self, Contract, Kind};
 
 /// Whether every clause holds. The later clauses rely on the ranges.
@@ -17,12 +17,15 @@ pub(crate) fn is_well_formed(ledger: &LedgerNumbers) -> bool {
         && no_pence_where_no_claim_was_made(ledger)
         && contracts_not_open_are_zeros(ledger)
         && rows_not_held_are_zeros(ledger)
-        && the_four_last_bits_of_contracts_are_zeros(ledger)
+        && the_five_last_bits_of_contracts_are_zeros(ledger)
         && the_two_last_bits_of_rows_are_zeros(ledger)
         && open_contracts_keep_their_ranges(ledger)
+        && a_clear_flag_has_three_zero_days(ledger)
+        && only_fixed_contracts_are_amended(ledger)
         && held_rows_keep_their_ranges(ledger)
         && shares_of_held_rows_do_not_exceed_kwh(ledger)
         && contracts_of_held_rows_are_open(ledger)
+        && no_row_crosses_its_contracts_original_end(ledger)
         && reference_price_is_0_only_for_flexible(ledger)
         && amounts_are_kwh_times_rate_by_day(ledger)
         && held_rows_come_first(ledger)
@@ -48,7 +51,7 @@ fn rows_not_held_are_zeros(ledger: &LedgerNumbers) -> bool {
     not_held.all(|row| *row == RowNumbers::default())
 }
 
-fn the_four_last_bits_of_contracts_are_zeros(ledger: &LedgerNumbers) -> bool {
+fn the_five_last_bits_of_contracts_are_zeros(ledger: &LedgerNumbers) -> bool {
     ledger.contracts.iter().all(|contract| contract.zeros == 0)
 }
 
@@ -56,7 +59,7 @@ fn the_two_last_bits_of_rows_are_zeros(ledger: &LedgerNumbers) -> bool {
     ledger.rows.iter().all(|row| row.zeros == 0)
 }
 
-/// The ranges of numbers 6 and 7 of open and cert.
+/// The ranges of numbers 6 and 7 of open, cert and amend.
 fn open_contracts_keep_their_ranges(ledger: &LedgerNumbers) -> bool {
     let Some(territory) = Territory::of(ledger.territory) else {
         return false;
@@ -66,10 +69,24 @@ fn open_contracts_keep_their_ranges(ledger: &LedgerNumbers) -> bool {
             kind_in_its_place(territory, contract.fuel, contract.kind)
                 && contract_days_in_range(contract.kind, numbers.price_fix_day, numbers.entry_day)
                 && effective_day_in_range(contract.certificate, numbers.effective_day)
+                && contract.amendment.is_none_or(amendment_days_in_range)
         })
     };
     let mut open = ledger.contracts.iter().filter(|contract| contract.open);
     open.all(keeps_its_ranges)
+}
+
+fn a_clear_flag_has_three_zero_days(ledger: &LedgerNumbers) -> bool {
+    let mut amendments = ledger.contracts.iter().map(|contract| contract.amendment);
+    amendments.all(|amendment| amendment.amended || amendment == AmendmentNumbers::default())
+}
+
+fn only_fixed_contracts_are_amended(ledger: &LedgerNumbers) -> bool {
+    let mut contracts = ledger
+        .contracts
+        .iter()
+        .filter_map(ContractNumbers::contract);
+    contracts.all(|contract| contract.amendment.is_none() || contract.kind.is_fixed())
 }
 
 /// The ranges of numbers 7 and 8 of bill, which R keeps too.
@@ -90,6 +107,14 @@ fn shares_of_held_rows_do_not_exceed_kwh(ledger: &LedgerNumbers) -> bool {
 fn contracts_of_held_rows_are_open(ledger: &LedgerNumbers) -> bool {
     let mut rows = ledger.held_rows();
     rows.all(|row| contract_of(ledger, row).is_some())
+}
+
+fn no_row_crosses_its_contracts_original_end(ledger: &LedgerNumbers) -> bool {
+    let crosses = |row: &RowNumbers| {
+        contract_of(ledger, row)
+            .is_some_and(|contract| crosses_original_end(&contract, row.first_day, row.last_day))
+    };
+    !ledger.held_rows().any(crosses)
 }
 
 fn reference_price_is_0_only_for_flexible(ledger: &LedgerNumbers) -> bool {

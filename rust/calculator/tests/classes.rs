@@ -31,6 +31,7 @@ fn cap_of(fuel: Fuel, certificate: Certificate, supply_price: i64) -> i64 {
         fuel,
         kind: Kind::Flexible,
         certificate,
+        amendment: None,
     };
     let bill = Bill {
         first_day: 600,
@@ -49,6 +50,7 @@ fn qhs_minimum_price(fuel: Fuel, kind: Kind, first_day: u32) -> i64 {
         fuel,
         kind,
         certificate: QHS,
+        amendment: None,
     };
     let earns_a_discount = |supply_price: &i64| {
         let bill = Bill {
@@ -90,6 +92,7 @@ fn a_bill_before_the_effective_day_has_the_baseline_rate_and_cap() {
             fuel: Fuel::Electricity,
             kind: Kind::Flexible,
             certificate,
+            amendment: None,
         };
         let bill = Bill {
             first_day: 599,
@@ -149,6 +152,7 @@ fn baseline_and_etii_discounts_start_above_their_prices() {
             fuel,
             kind: Kind::Flexible,
             certificate,
+            amendment: None,
         };
         let rate_at = |reference_price, supply_price| {
             let bill = Bill {
@@ -188,6 +192,7 @@ fn flexible_contracts() -> impl Iterator<Item = Contract> {
             fuel,
             kind: Kind::Flexible,
             certificate,
+            amendment: None,
         })
     })
 }

@@ -3,8 +3,9 @@
 //! The guidance's prices in p/kWh are written here in mils (30.2p is 30_200), its discounts
 //! in ticks (1.961p is 19_610) and its pounds in ten-thousandths of a penny (£1 is 1_000_000).
 
+use calculator::book::{entry_needed, BOOK_ENTRIES};
 use calculator::dates::day_number;
-use calculator::rates::{amount, rate, Bill, Certificate, Contract, Fuel, Kind};
+use calculator::rates::{amount, rate, Amendment, Bill, Certificate, Contract, Fuel, Kind};
 
 const SCHEME_START_DAY: u32 = 486;
 const SCHEME_INTRODUCTION_DAY: u32 = 511;
@@ -21,9 +22,14 @@ const QHS_FROM_INTRODUCTION: Certificate = Certificate::Qhs {
     effective_day: SCHEME_INTRODUCTION_DAY,
 };
 
+/// The day number of a date in the range.
+fn day(year: u32, month: u32, day: u32) -> u32 {
+    day_number(year, month, day).expect("the day is in the range")
+}
+
 /// A fixed contract priced and entered on one date.
-fn fixed_on(year: u32, month: u32, day: u32) -> Kind {
-    let signed = day_number(year, month, day).expect("the contract is signed in the range");
+fn fixed_on(year: u32, month: u32, day_of_month: u32) -> Kind {
+    let signed = day(year, month, day_of_month);
     Kind::Fixed {
         price_fix_day: signed,
         entry_day: signed,
@@ -42,6 +48,7 @@ fn fixed_price_contract_baseline_support() {
         fuel: Fuel::Electricity,
         kind: fixed_on(2022, 12, 3),
         certificate: Certificate::None,
+        amendment: None,
     };
     let bill = Bill {
         first_day: SCHEME_START_DAY,
@@ -63,6 +70,7 @@ fn fixed_price_contract_etii_support() {
         fuel: Fuel::Electricity,
         kind: fixed_on(2022, 10, 9),
         certificate: ETII_FROM_START,
+        amendment: None,
     };
     let bill = Bill {
         first_day: SCHEME_START_DAY,
@@ -92,6 +100,7 @@ fn fixed_price_contract_qhs_support() {
         fuel: Fuel::Gas,
         kind: fixed_on(2022, 12, 28),
         certificate: QHS_FROM_INTRODUCTION,
+        amendment: None,
     };
     let bill = Bill {
         first_day: SCHEME_INTRODUCTION_DAY,
@@ -119,10 +128,11 @@ fn variable_price_contract_qhs_support() {
         fuel: Fuel::Gas,
         kind: Kind::Variable,
         certificate: QHS_FROM_INTRODUCTION,
+        amendment: None,
     };
     let bill = Bill {
-        first_day: day_number(2024, 2, 1).expect("the day is in the range"),
-        last_day: day_number(2024, 2, 29).expect("the day is in the range"),
+        first_day: day(2024, 2, 1),
+        last_day: day(2024, 2, 29),
         kwh: 1,
         reference_price: 4_200,
         supply_price: 10_000,
@@ -140,6 +150,7 @@ fn variable_price_contract_baseline_support() {
         fuel: Fuel::Electricity,
         kind: Kind::Variable,
         certificate: Certificate::None,
+        amendment: None,
     };
     for reference_price in [0, 18_500, 30_199, 30_200] {
         for supply_price in [33_730, 40_000, 999_999] {
@@ -163,6 +174,7 @@ fn flexible_price_contract_baseline_support() {
         fuel: Fuel::Electricity,
         kind: Kind::Flexible,
         certificate: Certificate::None,
+        amendment: None,
     };
     let bill = Bill {
         first_day: SCHEME_START_DAY,
@@ -183,6 +195,7 @@ fn flexible_price_contract_etii_support() {
         fuel: Fuel::Electricity,
         kind: Kind::Flexible,
         certificate: ETII_FROM_START,
+        amendment: None,
     };
     let bill = Bill {
         first_day: SCHEME_START_DAY,
@@ -195,28 +208,89 @@ fn flexible_price_contract_etii_support() {
     assert_eq!(rate(&contract, &bill), 68_183);
 }
 
-/// Section 3.4, "Illustrative Examples" 1 to 3 of blend and extend: the maximum discount,
-/// nothing, and the supply price less the minimum supply price. The guidance's text gives
-/// no figures for them, so the supply prices are chosen here; the base discount is that of
+/// R on 3 December 2022, when the contract of the blend and extend examples was fixed: that of
 /// the fixed price contract example for baseline support.
-#[test]
-fn blend_and_extend_lowers_only_the_supply_price() {
-    let contract = Contract {
+const ORIGINAL_PRICE: u32 = 43_810;
+
+/// R on 15 May 2023, when that contract was amended: 0.5p above the baseline support price.
+const AMENDED_PRICE: u32 = 30_700;
+
+/// The contract of the blend and extend examples, with its price-fix and entry days the day on
+/// which it was agreed and the day on which it was amended.
+fn blended_and_extended(original_end_day: u32) -> Contract {
+    let amended = day(2023, 5, 15);
+    Contract {
         fuel: Fuel::Electricity,
         kind: fixed_on(2022, 12, 3),
         certificate: Certificate::None,
-    };
-    for (supply_price, expected) in [(60_000, 19_610), (29_000, 0), (31_200, 10_000)] {
-        let bill = Bill {
-            first_day: day_number(2023, 6, 1).expect("the day is in the range"),
-            last_day: day_number(2023, 6, 30).expect("the day is in the range"),
-            kwh: 1,
-            reference_price: 43_810,
-            supply_price,
-            ..Bill::default()
-        };
-        assert_eq!(rate(&contract, &bill), expected);
+        amendment: Some(Amendment {
+            original_end_day,
+            price_fix_day: amended,
+            entry_day: amended,
+        }),
     }
+}
+
+/// R and the rate of a month's bill at the supply price under the contract.
+fn price_and_rate(contract: &Contract, (year, month): (u32, u32), supply_price: i64) -> (u32, i64) {
+    let mut book = [0; BOOK_ENTRIES];
+    book[day(2022, 12, 3) as usize] = ORIGINAL_PRICE;
+    book[day(2023, 5, 15) as usize] = AMENDED_PRICE;
+    let first_day = day(year, month, 1);
+    let entry = entry_needed(contract, first_day).expect("a fixed contract needs an entry");
+    let last_days = (28..=31).filter_map(|last| day_number(year, month, last));
+    let bill = Bill {
+        first_day,
+        last_day: last_days.last().expect("the month is in the range"),
+        kwh: 1,
+        reference_price: book[entry].into(),
+        supply_price,
+        ..Bill::default()
+    };
+    (book[entry], rate(contract, &bill))
+}
+
+/// Checks a blend and extend from the supply price of the fixed price contract example to the
+/// blended one from 1 June 2023 on. The original term lasts as long as the scheme, and then only
+/// until 30 September 2023. The base discount is the original one, 43.81p − 30.2p, up to the
+/// original end, and after it that of the amendment, 30.7p − 30.2p (sections 3.2 and 3.4).
+fn check_blend_and_extend(blended: i64, until_original_end: i64, after_original_end: i64) {
+    let scheme_end = blended_and_extended(day(2024, 3, 31));
+    let september = blended_and_extended(day(2023, 9, 30));
+    let original = (ORIGINAL_PRICE, until_original_end);
+    let amended = (AMENDED_PRICE, after_original_end);
+    for contract in [scheme_end, september] {
+        let before_june = price_and_rate(&contract, (2023, 5), 91_200);
+        assert_eq!(before_june, (ORIGINAL_PRICE, 19_610));
+        for month in [(2023, 6), (2023, 9)] {
+            assert_eq!(price_and_rate(&contract, month, blended), original);
+        }
+    }
+    for month in [(2023, 10), (2024, 3)] {
+        assert_eq!(price_and_rate(&scheme_end, month, blended), original);
+        assert_eq!(price_and_rate(&september, month, blended), amended);
+    }
+}
+
+/// Section 3.4, "Illustrative Examples", example 1 of blend and extend: the maximum discount
+/// before and after 1 June 2023, "for the duration of the scheme" where the original term lasts
+/// as long. The guidance's text gives the examples no price and no other date, so these are
+/// chosen here.
+#[test]
+fn blend_and_extend_without_engaging_the_threshold() {
+    check_blend_and_extend(60_000, 19_610, 5_000);
+}
+
+/// Example 2: below the threshold the discount is zero, "from 1 June 2023" on.
+#[test]
+fn blend_and_extend_to_below_the_threshold() {
+    check_blend_and_extend(29_000, 0, 0);
+}
+
+/// Example 3: "from 1 June" on the supply price less the minimum supply price, 31.2p − 30.2p.
+#[test]
+fn blend_and_extend_to_near_the_threshold() {
+    check_blend_and_extend(31_200, 10_000, 5_000);
 }
 
 /// Section 3.5, "Table 1: Breakdown of the Discount apportionment": the intermediary's
@@ -236,6 +310,7 @@ fn intermediary_discount_apportionment() {
             fuel: Fuel::Gas,
             kind: Kind::Flexible,
             certificate,
+            amendment: None,
         };
         let bill = Bill {
             first_day: SCHEME_INTRODUCTION_DAY,
@@ -261,6 +336,7 @@ fn intermediary_discount_on_one_bill() {
         fuel: Fuel::Gas,
         kind: Kind::Flexible,
         certificate: Certificate::None,
+        amendment: None,
     };
     let bill = Bill {
         first_day: SCHEME_INTRODUCTION_DAY,

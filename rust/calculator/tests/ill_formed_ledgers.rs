@@ -1,10 +1,12 @@
 //! Ledgers that break one clause of document 01's paragraph "Well formed" or of document 02,
-//! papers 1 and 3, each, beside neighbours that keep it.
+//! papers 1, 3 and 5, each, beside neighbours that keep it.
 
 mod common;
 mod paper_run;
 
-use calculator::layout::{ContractNumbers, LedgerNumbers, RowNumbers, LEDGER_BYTES};
+use calculator::layout::{
+    AmendmentNumbers, ContractNumbers, LedgerNumbers, RowNumbers, LEDGER_BYTES,
+};
 use calculator::packed::{call_on_bytes, unpack};
 use common::call;
 use paper_run::paper_run;
@@ -36,6 +38,16 @@ fn is_well_formed(edit: impl Fn(&mut LedgerNumbers)) -> bool {
     let mut numbers = ledger();
     edit(&mut numbers);
     unpack(&numbers.write()).is_some()
+}
+
+/// The numbers of an amendment with its flag set.
+fn amendment(original_end_day: u32, price_fix_day: u32, entry_day: u32) -> AmendmentNumbers {
+    AmendmentNumbers {
+        amended: true,
+        original_end_day,
+        price_fix_day,
+        entry_day,
+    }
 }
 
 /// Whether the ledger is well formed with contract 0 without rows and edited.
@@ -100,13 +112,17 @@ fn no_pence_where_no_claim_was_made() {
 
 #[test]
 fn a_contract_not_open_is_all_zeros() {
-    let edits: [fn(&mut ContractNumbers); 6] = [
+    let edits: [fn(&mut ContractNumbers); 10] = [
         |contract| contract.fuel = 1,
         |contract| contract.kind = 2,
         |contract| contract.price_fix_day = 1,
         |contract| contract.entry_day = 1,
         |contract| contract.class = 1,
         |contract| contract.effective_day = 486,
+        |contract| contract.amendment.amended = true,
+        |contract| contract.amendment.original_end_day = 486,
+        |contract| contract.amendment.price_fix_day = 1,
+        |contract| contract.amendment.entry_day = 1,
     ];
     for edit in edits {
         assert!(!is_well_formed(|ledger| edit(&mut ledger.contracts[63])));
@@ -133,13 +149,20 @@ fn a_row_not_held_is_all_zeros() {
 }
 
 #[test]
-fn the_four_last_bits_of_any_contract_are_zeros() {
+fn the_five_last_bits_of_any_contract_are_zeros() {
     for contract in [0, 1, 2, 63] {
-        for zeros in [1, 2, 4, 8, 15] {
+        for zeros in [1, 2, 4, 8, 16, 31] {
             assert!(!is_well_formed(
                 |ledger| ledger.contracts[contract].zeros = zeros
             ));
         }
+    }
+    for (zeros, well_formed) in [(0, true), (1, false), (16, false)] {
+        let amended = |ledger: &mut LedgerNumbers| {
+            let contract = &mut ledger.contracts[1];
+            (contract.amendment, contract.zeros) = (amendment(515, 0, 0), zeros);
+        };
+        assert_eq!(is_well_formed(amended), well_formed, "{zeros}");
     }
 }
 
@@ -204,6 +227,139 @@ fn every_certificate_has_an_effective_day_in_range() {
             (contract.class, contract.effective_day) = (class, effective_day);
         };
         assert_eq!(contract_is_well_formed(edit), well_formed, "{class}");
+    }
+}
+
+#[test]
+fn a_clear_flag_has_three_zero_days() {
+    let edits: [fn(&mut AmendmentNumbers, u32); 3] = [
+        |amendment, day| amendment.original_end_day = day,
+        |amendment, day| amendment.price_fix_day = day,
+        |amendment, day| amendment.entry_day = day,
+    ];
+    for edit in edits {
+        for day in [1, 486, 851, 1_023] {
+            for contract in [0, 1, 2] {
+                assert!(!is_well_formed(|ledger| {
+                    edit(&mut ledger.contracts[contract].amendment, day);
+                }));
+            }
+        }
+    }
+}
+
+#[test]
+fn only_a_fixed_contract_is_amended() {
+    for (kind, well_formed) in [(0, true), (1, false), (2, false), (3, false)] {
+        let edit = |contract: &mut ContractNumbers| {
+            (contract.kind, contract.amendment) = (kind, amendment(600, 0, 0));
+        };
+        assert_eq!(contract_is_well_formed(edit), well_formed, "{kind}");
+    }
+}
+
+#[test]
+fn every_amendment_has_days_in_range() {
+    for (numbers, well_formed) in [
+        (amendment(0, 0, 0), false),
+        (amendment(485, 0, 0), false),
+        (amendment(486, 0, 0), true),
+        (amendment(851, 0, 0), true),
+        (amendment(852, 0, 0), false),
+        (amendment(1_023, 0, 0), false),
+        (amendment(600, 851, 0), true),
+        (amendment(600, 852, 0), false),
+        (amendment(600, 1_023, 0), false),
+        (amendment(600, 0, 851), true),
+        (amendment(600, 0, 852), false),
+        (amendment(600, 0, 1_023), false),
+        (amendment(486, 851, 851), true),
+    ] {
+        let edit = |contract: &mut ContractNumbers| {
+            (contract.kind, contract.amendment) = (0, numbers);
+        };
+        assert_eq!(contract_is_well_formed(edit), well_formed, "{numbers:?}");
+    }
+}
+
+/// Row 2, of contract 1, has its days edited. Rows 0 and 1, of contract 0, have the days 486 to
+/// 515 and 516 to 546 in each case.
+#[test]
+fn no_row_of_an_amended_contract_crosses_its_original_end() {
+    for (days, original_end_day, well_formed) in [
+        ((486, 515), 486, false),
+        ((486, 515), 500, false),
+        ((486, 515), 514, false),
+        ((486, 515), 515, true),
+        ((486, 515), 516, true),
+        ((486, 515), 851, true),
+        ((486, 486), 486, true),
+        ((487, 515), 486, true),
+        ((486, 500), 500, true),
+        ((501, 530), 500, true),
+        ((500, 501), 500, false),
+        ((486, 851), 850, false),
+        ((486, 851), 851, true),
+    ] {
+        let edit = |ledger: &mut LedgerNumbers| {
+            let row = &mut ledger.rows[2];
+            (row.first_day, row.last_day) = days;
+            ledger.contracts[1].amendment = amendment(original_end_day, 0, 0);
+        };
+        assert_eq!(
+            is_well_formed(edit),
+            well_formed,
+            "{days:?} {original_end_day}"
+        );
+    }
+}
+
+/// Contract 1 has a second row, of days 600 to 610.
+#[test]
+fn every_row_of_an_amended_contract_keeps_to_one_side_of_its_original_end() {
+    for (original_end_day, well_formed) in [
+        (514, false),
+        (515, true),
+        (599, true),
+        (600, false),
+        (609, false),
+        (610, true),
+    ] {
+        let edit = |ledger: &mut LedgerNumbers| {
+            ledger.rows[3] = ledger.rows[2];
+            (ledger.rows[3].first_day, ledger.rows[3].last_day) = (600, 610);
+            ledger.contracts[1].amendment = amendment(original_end_day, 0, 0);
+        };
+        assert_eq!(is_well_formed(edit), well_formed, "{original_end_day}");
+    }
+}
+
+/// Contract 1 of gas, entered on day 851, with a QHS certificate; its row of 1,000 kWh on the
+/// days 792 to 800 at R 25,000 and S 30,000. A kWh has 10 × (30,000 − 7,830) = 221,700 ticks at
+/// the old minimum and 10 × (30,000 − 6,500) = 235,000 at the new one.
+#[test]
+fn the_amount_after_the_original_end_is_by_the_amended_entry_day() {
+    let (old, new) = (221_700_000, 235_000_000);
+    for (numbers, amount) in [
+        (AmendmentNumbers::default(), new),
+        (amendment(791, 0, 791), old),
+        (amendment(791, 0, 792), new),
+        (amendment(800, 0, 791), new),
+        (amendment(486, 0, 0), old),
+    ] {
+        let with_amount = |amount| {
+            is_well_formed(|ledger| {
+                let contract = &mut ledger.contracts[1];
+                (contract.class, contract.effective_day) = (2, 511);
+                contract.amendment = numbers;
+                let row = &mut ledger.rows[2];
+                (row.first_day, row.last_day) = (792, 800);
+                (row.reference_price, row.supply_price) = (25_000, 30_000);
+                row.amount = amount;
+            })
+        };
+        assert!(with_amount(amount), "{numbers:?}");
+        assert!(!with_amount(old + new - amount), "{numbers:?}");
     }
 }
 
@@ -354,6 +510,7 @@ fn a_ledger_with_amounts_by_the_first_day_is_refused() {
         "claim",
         "report 0",
         "total",
+        "amend 1 515 0 0",
     ] {
         let mut bytes = stored.clone();
         let outcome = call_on_bytes(&mut bytes, &[11_000; 1_740], &call(line));

@@ -318,6 +318,7 @@ impl Stored {
             fuel: self.fuel,
             kind: self.kind,
             certificate: Certificate::None,
+            amendment: None,
         });
         facts.rows.push(row);
         facts

@@ -379,12 +379,28 @@ fn the_numbers_of_a_bill_stand_in_the_papers_order() {
 }
 
 #[test]
+fn the_numbers_of_an_amendment_stand_in_the_papers_order() {
+    let amend = Call::Amend {
+        contract: 1,
+        original_end_day: 2,
+        price_fix_day: 3,
+        entry_day: 4,
+    };
+    assert_eq!(call("amend 1 2 3 4"), amend);
+}
+
+#[test]
 fn a_call_is_made_of_its_name_and_numbers() {
     for (line, _) in paper_run() {
         let call = call(line);
         assert_eq!(Call::of(call.name(), &call.numbers()), Some(call));
     }
-    for line in ["start 1", "report 63", "bill 1 2 3 4 5 6 7 8"] {
+    for line in [
+        "start 1",
+        "report 63",
+        "bill 1 2 3 4 5 6 7 8",
+        "amend 1 2 3 4",
+    ] {
         let call = call(line);
         assert_eq!(Call::of(call.name(), &call.numbers()), Some(call));
     }
@@ -392,6 +408,9 @@ fn a_call_is_made_of_its_name_and_numbers() {
     for count in [0, 5, 6, 7, 9] {
         assert_eq!(Call::of("bill", &vec![0; count]), None);
         assert_eq!(Call::of("rebill", &vec![0; count]), None);
+    }
+    for count in [0, 3, 5] {
+        assert_eq!(Call::of("amend", &vec![0; count]), None);
     }
     assert_eq!(Call::of("close", &[0]), None);
 }

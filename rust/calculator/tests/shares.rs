@@ -52,6 +52,7 @@ fn each_share_has_its_class_and_the_rest_is_baseline() {
             fuel: Fuel::Electricity,
             kind: Kind::Flexible,
             certificate,
+            amendment: None,
         };
         for first_day in [486, 510, 511, 791] {
             for (shares, expected) in table {
@@ -71,6 +72,7 @@ fn a_bill_without_shares_keeps_its_certificate() {
             fuel: Fuel::Electricity,
             kind: Kind::Flexible,
             certificate,
+            amendment: None,
         };
         let bill = bill_of_1_000_kwh(791, (0, 0));
         assert_eq!(rate(&contract, &bill), expected, "{certificate:?}");
@@ -118,6 +120,7 @@ fn a_qhs_share_has_the_old_or_the_new_minimum() {
                 fuel,
                 kind,
                 certificate: Certificate::None,
+                amendment: None,
             };
             let bill = Bill {
                 first_day,
@@ -142,6 +145,7 @@ fn a_share_may_have_a_lower_rate_than_the_rest() {
         fuel: Fuel::Electricity,
         kind: Kind::Flexible,
         certificate: Certificate::None,
+        amendment: None,
     };
     // S is 1 below the old QHS minimum, or 1 above it
     for (supply_price, qhs_rate) in [(33_999, 0), (34_001, 10)] {
@@ -175,6 +179,7 @@ fn the_cap_of_a_bill_is_the_sum_over_its_shares() {
                 fuel,
                 kind: Kind::Flexible,
                 certificate,
+                amendment: None,
             };
             let bill = bill_of_1_000_kwh(600, (300, 200));
             assert_eq!(cap(&contract, &bill), expected, "{contract:?}");

@@ -39,6 +39,7 @@ fn contract(kind: Kind, certificate: Certificate) -> Contract {
         fuel: Fuel::Electricity,
         kind,
         certificate,
+        amendment: None,
     }
 }
 
@@ -379,7 +380,7 @@ fn class_and_minimum(contract: &Contract, bill: &Bill, day: u32) -> (Class, bool
         class_of_bill(contract.certificate, day)
     };
     let has_qhs = class == Class::Qhs || bill.qhs_share != 0;
-    let new_minimum = has_qhs && new_qhs_minimum_applies(contract.kind, day);
+    let new_minimum = has_qhs && new_qhs_minimum_applies(contract, day);
     (class, new_minimum)
 }
 

@@ -84,6 +84,13 @@ fn names_spaces_and_counts() {
         b"rebill 0 486 515 1 1 1",
         b"rebill 0 486 515 1 1 1 0",
         b"rebill 0 486 515 1 1 1 0 0 0",
+        b"amend",
+        b"amend 0 486 0",
+        b"amend 0 486 0 0 0",
+        b"Amend 0 486 0 0",
+        b"amends 0 486 0 0",
+        b"amend 0 486 0 00",
+        b"amend 0 486 0 4294967296",
     ]);
 }
 
@@ -124,6 +131,15 @@ fn days_and_dates() {
     let input = "day 2021 12 1\nday 2024 2 29\nday 2023 2 29\ndate 851\ndate 852\n";
     let output = "ok 0\nok 820\nrefused 7\nok 2024 3 31\nrefused 7\n";
     assert_eq!(printed(input), output);
+}
+
+#[test]
+fn amend_answers_no_numbers() {
+    let opened = "price 7 30300\nprice 530 30400\nopen 0 0 0 7 8\n";
+    let amend = "amend 0 600 530 531\n";
+    let bills = "bill 0 600 600 1 99999 0 0 0\nbill 0 601 601 1 99999 0 0 0\n";
+    let output = "ok\nok\nok\nok\nok 30300 1000 1000\nok 30400 2000 2000\nrefused 16\n";
+    assert_eq!(printed(&format!("{opened}{amend}{bills}{amend}")), output);
 }
 
 #[test]

@@ -29,6 +29,7 @@ impl Case {
             fuel: self.fuel,
             kind: self.kind,
             certificate: self.certificate,
+            amendment: None,
         };
         let bill = Bill {
             first_day: self.first_day,
@@ -97,6 +98,7 @@ fn the_printed_etii_rate_is_not_used() {
         fuel: Fuel::Electricity,
         kind: Kind::Flexible,
         certificate: ETII,
+        amendment: None,
     };
     let bill = Bill {
         first_day: 486,
