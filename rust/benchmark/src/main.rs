@@ -1,6 +1,7 @@
-//! Prints the times of the proved calls beside those of the twin, what a change inside a bill adds
-//! to them, and the program's times beside the calculator's, as tables in Markdown.
+//! Prints the times of the proved calls beside those of the twin, what a change inside a bill and
+//! an amendment add to them, and the program's times beside the calculator's, as tables in Markdown.
 
+mod amendments;
 mod batches;
 mod both_ledgers;
 mod calls;
@@ -11,6 +12,7 @@ mod ledgers;
 mod sessions;
 mod timing;
 
+use amendments::{rows_of_amended, unamended, AMENDED};
 use batches::{answer_of_both, compare_calls, compare_ledgers, BATCH, BATCHES};
 use calls::{Answer, Case, CASES};
 use calls_on_changes::CALLS_ON_CHANGES;
@@ -29,6 +31,10 @@ fn main() {
     print_calls_on_changes(&book);
     println!();
     print_costs_of_changes(&book);
+    println!();
+    print_calls_on_amendments(&book);
+    println!();
+    print_costs_of_amendments(&book);
     println!();
     print_sessions();
 }
@@ -81,6 +87,26 @@ fn print_costs_of_changes(book: &[u32]) {
         let totals = [contents.without_changes(), contents]
             .map(|contents| calls_on_changes::total(contents, book));
         print_cost(totals, contents.rows_with_change(), book);
+    }
+}
+
+fn print_calls_on_amendments(book: &[u32]) {
+    println!("The same on ledgers of 64 fixed contracts with 16 rows each, of 20 days: of an amended contract's rows 8 end before the original end day and 8 begin after it. The rows are the same in each ledger.");
+    println!();
+    print_heading_of_calls("of amended contracts");
+    for amended in AMENDED {
+        let total = amendments::total(amended, book);
+        print_call_on_ledger(total, rows_of_amended(amended), book);
+    }
+}
+
+fn print_costs_of_amendments(book: &[u32]) {
+    println!("Nanoseconds that an amendment adds to the check of a row of its contract, measured likewise.");
+    println!();
+    print_heading_of_costs("of amended contracts");
+    for amended in AMENDED {
+        let totals = [unamended, amended].map(|amended| amendments::total(amended, book));
+        print_cost(totals, rows_of_amended(amended), book);
     }
 }
 
