@@ -52,6 +52,28 @@ impl BothLedgers {
         );
     }
 
+    pub fn amend(
+        &mut self,
+        contract: u32,
+        original_end_day: u32,
+        price_fix_day: u32,
+        entry_day: u32,
+    ) {
+        self.call(
+            |ledger| {
+                let answer = ebds::calls::amend(
+                    ledger,
+                    contract,
+                    original_end_day,
+                    price_fix_day,
+                    entry_day,
+                );
+                proved(answer)
+            },
+            |ledger| twin::amend(ledger, contract, original_end_day, price_fix_day, entry_day),
+        );
+    }
+
     pub fn bill(&mut self, book: &[u32], numbers: twin::BillNumbers) {
         self.call(
             |ledger| proved_bill(ledger, book, numbers),

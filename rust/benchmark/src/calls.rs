@@ -3,6 +3,7 @@
 use crate::both_ledgers::NORTHERN_IRELAND;
 use crate::ledgers::{
     bill_numbers, CLOSED_CONTRACT, FIRST_DAY, FREE_DAY, LARGE_CONTRACT, MIDDLE_CONTRACT,
+    ORIGINAL_END_DAY,
 };
 
 /// What a call answers: its numbers, or the number that turns it down.
@@ -25,10 +26,10 @@ pub struct Case {
     pub twin: Call,
 }
 
-/// The calls on a ledger, in document 01's order. A bill, a rebill and a cancellation are of a row
-/// with shares in the middle of the others, a certificate and a report of the contract with the
-/// most rows.
-pub const CASES: [Case; 9] = [
+/// The calls on a ledger, in document 01's order, with amend after cert. A bill, a rebill and a
+/// cancellation are of a row with shares in the middle of the others, a certificate, an amendment
+/// and a report of the contract with the most rows.
+pub const CASES: [Case; 10] = [
     Case {
         name: "start",
         rows: ROWS,
@@ -60,6 +61,20 @@ pub const CASES: [Case; 9] = [
         rows: ROWS,
         proved: |ledger, _| proved(ebds::calls::cert(ledger, LARGE_CONTRACT, 1, FIRST_DAY)),
         twin: |ledger, _| twin::cert(ledger, LARGE_CONTRACT, 1, FIRST_DAY),
+    },
+    Case {
+        name: "amend",
+        rows: ROWS,
+        proved: |ledger, _| {
+            proved(ebds::calls::amend(
+                ledger,
+                LARGE_CONTRACT,
+                ORIGINAL_END_DAY,
+                1,
+                2,
+            ))
+        },
+        twin: |ledger, _| twin::amend(ledger, LARGE_CONTRACT, ORIGINAL_END_DAY, 1, 2),
     },
     Case {
         name: "cancel",

@@ -1,32 +1,19 @@
 //! The calls that are measured on ledgers with changes inside bills. Those of bill, rebill and cert
 //! are of the middle contract, and what each of them leaves is the ledger that total is measured on.
 
-use crate::calls::{proved, proved_bill, proved_rebill, Answer};
+use crate::calls::{proved, proved_bill, proved_rebill};
+use crate::calls_on_ledgers::CallOnLedger;
 use crate::changes::{class, Contents, EFFECTIVE_DAY, MIDDLE_CONTRACT, MINIMUM_BILL};
 
-/// A call with its own numbers.
-type OwnCall = Box<dyn Fn(&mut [u8], &[u32]) -> Answer>;
-
-/// A call that is measured, with the ledger before it.
-pub struct CallOnChanges {
-    pub name: &'static str,
-    pub ledger: Vec<u8>,
-    /// How many rows the ledger has.
-    pub rows: usize,
-    pub proved: OwnCall,
-    pub twin: OwnCall,
-}
-
 /// The calls, each of the ledger's contents and the price book.
-pub const CALLS_ON_CHANGES: [fn(Contents, &[u32]) -> CallOnChanges; 4] =
-    [bill, rebill, cert, total];
+pub const CALLS_ON_CHANGES: [fn(Contents, &[u32]) -> CallOnLedger; 4] = [bill, rebill, cert, total];
 
 /// A bill for days around day 792, or from it on.
-fn bill(contents: Contents, book: &[u32]) -> CallOnChanges {
+fn bill(contents: Contents, book: &[u32]) -> CallOnLedger {
     let numbers = contents.bill_numbers(MIDDLE_CONTRACT, MINIMUM_BILL);
     let mut ledgers = contents.ledgers(book);
     ledgers.cancel(numbers.contract, numbers.first);
-    CallOnChanges {
+    CallOnLedger {
         name: "bill",
         ledger: ledgers.bytes(),
         rows: contents.rows() - 1,
@@ -36,9 +23,9 @@ fn bill(contents: Contents, book: &[u32]) -> CallOnChanges {
 }
 
 /// The same bill once more.
-fn rebill(contents: Contents, book: &[u32]) -> CallOnChanges {
+fn rebill(contents: Contents, book: &[u32]) -> CallOnLedger {
     let numbers = contents.bill_numbers(MIDDLE_CONTRACT, MINIMUM_BILL);
-    CallOnChanges {
+    CallOnLedger {
         name: "rebill",
         ledger: contents.ledgers(book).bytes(),
         rows: contents.rows(),
@@ -48,11 +35,11 @@ fn rebill(contents: Contents, book: &[u32]) -> CallOnChanges {
 }
 
 /// The certificate of a contract that has none.
-fn cert(contents: Contents, book: &[u32]) -> CallOnChanges {
+fn cert(contents: Contents, book: &[u32]) -> CallOnLedger {
     let (contract, class, day) = (MIDDLE_CONTRACT, class(MIDDLE_CONTRACT), EFFECTIVE_DAY);
     let mut ledgers = contents.ledgers(book);
     ledgers.cert(contract, 0, 0);
-    CallOnChanges {
+    CallOnLedger {
         name: "cert",
         ledger: ledgers.bytes(),
         rows: contents.rows(),
@@ -61,13 +48,7 @@ fn cert(contents: Contents, book: &[u32]) -> CallOnChanges {
     }
 }
 
-/// The total, which is the check of the ledger and little else.
-pub fn total(contents: Contents, book: &[u32]) -> CallOnChanges {
-    CallOnChanges {
-        name: "total",
-        ledger: contents.ledgers(book).bytes(),
-        rows: contents.rows(),
-        proved: Box::new(|ledger, _| proved(ebds::calls::total(ledger))),
-        twin: Box::new(|ledger, _| twin::total(ledger)),
-    }
+/// The total.
+pub fn total(contents: Contents, book: &[u32]) -> CallOnLedger {
+    CallOnLedger::total(contents.ledgers(book).bytes(), contents.rows())
 }

@@ -11,7 +11,7 @@ use crate::both_ledgers::BothLedgers;
 use crate::ledgers::{reference_price, varied, FIXED, FLEXIBLE};
 
 /// How many contracts there are, all of them open.
-const CONTRACTS: u32 = 64;
+pub const CONTRACTS: u32 = 64;
 
 /// A flexible contract with a QHS certificate, whose rows are in the middle; its prices are such that
 /// both of its changes make a difference to the amounts.
@@ -48,6 +48,12 @@ const TWO_BILLS: &[u32] = &[EFFECTIVE_BILL, MINIMUM_BILL];
 /// As many bills of each contract as fill a ledger.
 const SIXTEEN_BILLS: &[u32] = &[0, 1, 2, 3, 4, 5, 6, 7, 8, 9, 10, 11, 12, 13, 14, 15];
 
+/// A full ledger, without a change inside any bill.
+pub const FULL: Contents = Contents {
+    bills: SIXTEEN_BILLS,
+    changes_inside: |_| false,
+};
+
 /// What the ledgers hold: 128 rows of which none, the middle contract's, half and all have a change
 /// inside; and 1,024 rows of which none, and as many as can, have one.
 pub const CONTENTS: [Contents; 6] = [
@@ -68,10 +74,7 @@ pub const CONTENTS: [Contents; 6] = [
         bills: TWO_BILLS,
         changes_inside: |_| true,
     },
-    Contents {
-        bills: SIXTEEN_BILLS,
-        changes_inside: |_| false,
-    },
+    FULL,
     Contents {
         bills: SIXTEEN_BILLS,
         changes_inside: |_| true,
@@ -145,7 +148,8 @@ impl Contents {
         }
     }
 
-    fn all_bill_numbers(self) -> impl Iterator<Item = BillNumbers> {
+    /// The numbers of all bills.
+    pub fn all_bill_numbers(self) -> impl Iterator<Item = BillNumbers> {
         (0..CONTRACTS).flat_map(move |contract| {
             let numbers = move |&bill| self.bill_numbers(contract, bill);
             self.bills.iter().map(numbers)
@@ -164,22 +168,26 @@ fn has_change_inside(numbers: &BillNumbers) -> bool {
 fn opened() -> BothLedgers {
     let mut ledgers = BothLedgers::start();
     for contract in 0..CONTRACTS {
-        open(&mut ledgers, contract);
+        open(&mut ledgers, contract, kind(contract));
     }
     ledgers
 }
 
-/// Opens a contract, with its certificate. A fixed one is entered on the day from which the new QHS
-/// minimum applies, so that it doesn't keep the old one.
-fn open(ledgers: &mut BothLedgers, contract: u32) {
+/// Opens a contract of a kind, with its certificate.
+pub fn open(ledgers: &mut BothLedgers, contract: u32, kind: u32) {
     let fuel = contract / 4 % 2;
-    let kind = kind(contract);
     let (price_fix_day, entry_day) = match kind {
-        FIXED => (13 * contract, NEW_MINIMUM_DAY),
+        FIXED => fixed_days(contract),
         _ => (0, 0),
     };
     ledgers.open(contract, fuel, kind, price_fix_day, entry_day);
     ledgers.cert(contract, class(contract), EFFECTIVE_DAY);
+}
+
+/// The price-fix day and the entry day of a fixed contract. It is entered on the day from which the
+/// new QHS minimum applies, so that it doesn't keep the old one.
+pub fn fixed_days(contract: u32) -> (u32, u32) {
+    (13 * contract, NEW_MINIMUM_DAY)
 }
 
 /// The kind of a contract, fixed or flexible: no bill of another kind has day 792 inside, which is

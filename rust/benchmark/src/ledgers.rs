@@ -16,6 +16,10 @@ pub const CLOSED_CONTRACT: u32 = 63;
 /// The day of each contract's first row, and of its certificate. Each row takes one day.
 pub const FIRST_DAY: u32 = 511;
 
+/// The original end day of the amendment that is measured, after each row of the contract with a
+/// quarter of the rows.
+pub const ORIGINAL_END_DAY: u32 = 800;
+
 /// The scheme's last day, which no row takes.
 pub const FREE_DAY: u32 = 851;
 

@@ -31,7 +31,7 @@ impl Contract {
             _ if bill.has_shares() => Class::Baseline,
             Certificate::Etii { effective_day } if effective_day <= bill.first => Class::Etii,
             Certificate::Qhs { effective_day } if effective_day <= bill.first => {
-                if bill.first < self.new_minimum_day() {
+                if bill.first < self.new_minimum_day(bill) {
                     self.qhs_old()
                 } else {
                     self.qhs_new()
@@ -83,7 +83,7 @@ impl Contract {
     #[inline(never)]
     fn amount_of_stretches(&self, bill: Bill) -> i64 {
         let rate = |class| self.class_rate(class, &bill);
-        let new_minimum_day = self.new_minimum_day();
+        let new_minimum_day = self.new_minimum_day(&bill);
         match self.certificate {
             _ if bill.has_shares() => {
                 let qhs_old = bill.kwh_before(new_minimum_day, bill.qhs_share);
@@ -109,7 +109,7 @@ impl Contract {
 
     /// The QHS class of all days of a bill, or `None` where the minimum changes inside the bill.
     fn qhs_class(&self, bill: &Bill) -> Option<Class> {
-        if bill.last < NEW_MINIMUM_DAY || self.keeps_old_minimum() {
+        if bill.last < NEW_MINIMUM_DAY || self.keeps_old_minimum(bill) {
             Some(self.qhs_old())
         } else if NEW_MINIMUM_DAY <= bill.first {
             Some(self.qhs_new())
@@ -118,18 +118,20 @@ impl Contract {
         }
     }
 
-    /// The day from which the new QHS minimum applies, or the day after the last where it never
-    /// does.
-    fn new_minimum_day(&self) -> u32 {
-        if self.keeps_old_minimum() {
+    /// The day from which the new QHS minimum applies to a bill, or the day after the last where it
+    /// never does.
+    fn new_minimum_day(&self, bill: &Bill) -> u32 {
+        if self.keeps_old_minimum(bill) {
             LAST_DAY + 1
         } else {
             NEW_MINIMUM_DAY
         }
     }
 
-    /// Whether the old QHS minimum stays on all days: in a fixed contract entered before day 792.
-    fn keeps_old_minimum(&self) -> bool {
-        matches!(self.kind, Kind::Fixed { entry_day, .. } if entry_day < NEW_MINIMUM_DAY)
+    /// Whether a bill keeps the old QHS minimum on all days: its contract is fixed, and the entry
+    /// day that it takes is before day 792.
+    fn keeps_old_minimum(&self, bill: &Bill) -> bool {
+        let kind = self.kind_on(bill.first);
+        matches!(kind, Kind::Fixed { entry_day, .. } if entry_day < NEW_MINIMUM_DAY)
     }
 }

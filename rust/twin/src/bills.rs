@@ -1,6 +1,6 @@
 //! What bill and rebill have in common: the numbers given, their refusals and the row made of
 //! them (document 01, sections "Contracts and the price book" and "Turned down, in checking
-//! order"; document 02, papers 1 and 2).
+//! order"; document 02, papers 1, 2 and 5).
 
 use crate::calendar::scheme_month;
 use crate::check::{span_ok, Checked, HIGHEST_PRICE, MOST_KWH};
@@ -8,7 +8,8 @@ use crate::contracts::{Contract, Fuel, Kind};
 use crate::packed::Row;
 use crate::rates::Bill;
 use crate::refusals::{
-    BAD_BOOK, NO_PRICE, SHARES_EXCEED_KWH, TWO_MONTHS, WRONG_DAY, WRONG_QUANTITY,
+    BAD_BOOK, CROSSES_ORIGINAL_END, NO_PRICE, SHARES_EXCEED_KWH, TWO_MONTHS, WRONG_DAY,
+    WRONG_QUANTITY,
 };
 
 /// How many prices a book has.
@@ -53,6 +54,9 @@ impl BillNumbers {
         if contract.kind.is_monthly() && scheme_month(self.first) != scheme_month(self.last) {
             return Err(TWO_MONTHS);
         }
+        if contract.crosses_original_end(self.first, self.last) {
+            return Err(CROSSES_ORIGINAL_END);
+        }
         let highest_wap = match contract.kind {
             Kind::Flexible => HIGHEST_PRICE,
             Kind::Fixed { .. } | Kind::Variable | Kind::Index => 0,
@@ -88,7 +92,7 @@ impl BillNumbers {
     /// R: the weighted price of a flexible contract, or else the book's price.
     fn reference(&self, contract: &Contract, book: &[u32]) -> Result<u32, u32> {
         let month = scheme_month(self.first);
-        let entry = match (contract.kind, contract.fuel) {
+        let entry = match (contract.kind_on(self.first), contract.fuel) {
             (Kind::Flexible, _) => return Ok(self.wap),
             (Kind::Fixed { price_fix_day, .. }, Fuel::Electricity) => price_fix_day as usize,
             (Kind::Fixed { price_fix_day, .. }, Fuel::Gas) => FIXED_GAS_AT + price_fix_day as usize,

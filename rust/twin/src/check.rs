@@ -1,9 +1,10 @@
-//! The well-formed check (document 01, section on the packed ledger; document 02, papers 1 and 3):
-//! one pass over the contracts, and one over the rows.
+//! The well-formed check (document 01, section on the packed ledger; document 02, papers 1, 3
+//! and 5): one pass over the contracts, and one over the rows.
 
 use crate::contracts::{Contract, Kind, FIRST_SCHEME_DAY, LAST_DAY};
 use crate::packed::{
     contract_slots, row_slots, ContractSlot, Header, Row, RowSlot, CONTRACT_COUNT, LEDGER_LENGTH,
+    UNOPENED,
 };
 use crate::refusals::{NOT_WELL_FORMED, NO_SUCH_CONTRACT, WRONGLY_OPEN};
 
@@ -71,7 +72,7 @@ fn well_formed(ledger: &[u8]) -> Option<Checked> {
 fn check_contracts(slots: &[ContractSlot], territory: u32) -> Option<Contracts> {
     let mut contracts = [None; CONTRACT_COUNT];
     for (contract, slot) in contracts.iter_mut().zip(slots) {
-        if *slot != [0; 5] {
+        if *slot != UNOPENED {
             *contract = Some(Contract::unpack(slot, territory)?);
         }
     }
@@ -105,6 +106,7 @@ fn check_rows(slots: &[RowSlot], contracts: &Contracts) -> Option<(usize, i64)> 
 /// Whether a row keeps its ranges under its contract and has the amount of its bill.
 fn row_ok(contract: &Contract, Row { bill, amount }: &Row) -> bool {
     span_ok(bill.first, bill.last)
+        && !contract.crosses_original_end(bill.first, bill.last)
         && bill.kwh <= MOST_KWH
         && bill.rest() >= 0
         && bill.supply <= HIGHEST_PRICE

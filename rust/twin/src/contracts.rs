@@ -1,7 +1,7 @@
 //! Contracts from their numbers, with the ranges of document 01 (sections "Contracts and the
-//! price book" and "Turned down, in checking order").
+//! price book" and "Turned down, in checking order") and of document 02, paper 5.
 
-use crate::refusals::{WRONG_CODE, WRONG_DAY};
+use crate::refusals::{NOT_AMENDABLE, WRONG_CODE, WRONG_DAY};
 
 /// The greatest day number, 31 March 2024.
 pub const LAST_DAY: u32 = 851;
@@ -36,6 +36,15 @@ pub enum Certificate {
     Qhs { effective_day: u32 },
 }
 
+/// The amendment of a fixed contract: a bill that begins after the original end takes this
+/// price-fix day and entry day in place of the contract's.
+#[derive(Clone, Copy)]
+pub struct Amendment {
+    pub original_end_day: u32,
+    pub price_fix_day: u32,
+    pub entry_day: u32,
+}
+
 impl Kind {
     /// Whether the kind's prices are published by the month.
     pub fn is_monthly(self) -> bool {
@@ -52,10 +61,11 @@ pub struct Contract {
     pub fuel: Fuel,
     pub kind: Kind,
     pub certificate: Certificate,
+    pub amendment: Option<Amendment>,
 }
 
 impl Contract {
-    /// A contract without a certificate, or the number that turns it down.
+    /// An unamended contract without a certificate, or the number that turns it down.
     pub fn from_numbers(
         territory: u32,
         fuel: u32,
@@ -89,6 +99,7 @@ impl Contract {
             fuel,
             kind,
             certificate: Certificate::None,
+            amendment: None,
         })
     }
 
@@ -98,6 +109,53 @@ impl Contract {
             certificate,
             ..self
         }
+    }
+
+    /// The contract with an amendment, or the number that turns it down.
+    pub fn amended(
+        self,
+        original_end_day: u32,
+        price_fix_day: u32,
+        entry_day: u32,
+    ) -> Result<Contract, u32> {
+        if !matches!(self.kind, Kind::Fixed { .. }) || self.amendment.is_some() {
+            return Err(NOT_AMENDABLE);
+        }
+        let end_days = FIRST_SCHEME_DAY..=LAST_DAY;
+        if !end_days.contains(&original_end_day) || price_fix_day.max(entry_day) > LAST_DAY {
+            return Err(WRONG_DAY);
+        }
+        let amendment = Amendment {
+            original_end_day,
+            price_fix_day,
+            entry_day,
+        };
+        Ok(Contract {
+            amendment: Some(amendment),
+            ..self
+        })
+    }
+
+    /// The kind with the price-fix day and entry day that a bill takes which begins on that day.
+    pub fn kind_on(&self, first: u32) -> Kind {
+        match self.amendment {
+            Some(Amendment {
+                original_end_day,
+                price_fix_day,
+                entry_day,
+            }) if original_end_day < first => Kind::Fixed {
+                price_fix_day,
+                entry_day,
+            },
+            _ => self.kind,
+        }
+    }
+
+    /// Whether the contract is amended, and a span begins on or before its original end and ends
+    /// after it.
+    pub fn crosses_original_end(&self, first: u32, last: u32) -> bool {
+        self.amendment
+            .is_some_and(|amendment| (first..last).contains(&amendment.original_end_day))
     }
 }
 

@@ -1,4 +1,4 @@
-//! The calls of document 01, with papers 1 to 4 of document 02, hand-written in Rust on the same
+//! The calls of document 01, with papers 1 to 5 of document 02, hand-written in Rust on the same
 //! packed bytes: what the times of the proved calls are measured against.
 //!
 //! Each call answers three numbers in document 01's order, unused ones 0, or the number that
@@ -15,16 +15,16 @@ mod refusals;
 mod rows;
 
 pub use bills::BillNumbers;
+pub use packed::LEDGER_LENGTH;
 
 use check::{check, MOST_CLAIMS};
 use contracts::{Certificate, Contract};
-use packed::{
-    contract_slots_mut, row_slots, row_slots_mut, Header, Row, LEDGER_LENGTH, ROW_COUNT, UNHELD,
-};
+use packed::{contract_slots_mut, row_slots, row_slots_mut, Header, Row, ROW_COUNT, UNHELD};
 use refusals::{
-    NOT_WELL_FORMED, NO_CLAIM_LEFT, NO_ROOM, SHARED_DAY, WRONGLY_OPEN, WRONG_CODE, WRONG_DAY,
+    NOT_WELL_FORMED, NO_CLAIM_LEFT, NO_ROOM, ROW_AFTER_ORIGINAL_END, SHARED_DAY, WRONGLY_OPEN,
+    WRONG_CODE, WRONG_DAY,
 };
-use rows::{begins_within, new_place, place_of, places_of_contract};
+use rows::{begins_within, ends_after, new_place, place_of, places_of_contract};
 
 /// How many ticks a penny has.
 const TICKS_PER_PENNY: i64 = 10_000;
@@ -47,7 +47,7 @@ pub fn start(ledger: &mut [u8], territory: u32) -> Result<[i64; 3], u32> {
     Ok([0; 3])
 }
 
-/// open: a contract under a number that isn't open, without a certificate.
+/// open: an unamended contract under a number that isn't open, without a certificate.
 pub fn open(
     ledger: &mut [u8],
     contract: u32,
@@ -128,6 +128,25 @@ pub fn cert(
         }
     }
     Ok([change, changed, 0])
+}
+
+/// amend: an amendment of a fixed contract that has none. It alters no row.
+pub fn amend(
+    ledger: &mut [u8],
+    contract: u32,
+    original_end_day: u32,
+    price_fix_day: u32,
+    entry_day: u32,
+) -> Result<[i64; 3], u32> {
+    let checked = check(ledger)?;
+    let terms = checked.contract(contract)?;
+    let amended = terms.amended(original_end_day, price_fix_day, entry_day)?;
+    let held = &row_slots(ledger)[..checked.held];
+    if ends_after(held, contract, original_end_day) {
+        return Err(ROW_AFTER_ORIGINAL_END);
+    }
+    contract_slots_mut(ledger)[contract as usize] = amended.pack();
+    Ok([0; 3])
 }
 
 /// cancel: removes the row with that contract and first day; answers minus its amount.

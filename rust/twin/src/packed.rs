@@ -1,11 +1,11 @@
 //! The header, the contracts and the rows in their bytes (document 01, section on the packed
-//! ledger, with the rows of document 02, paper 1).
+//! ledger, with the rows of document 02, paper 1, and the contracts of paper 5).
 
-use crate::contracts::{Certificate, Contract, Fuel, Kind};
+use crate::contracts::{Amendment, Certificate, Contract, Fuel, Kind};
 use crate::rates::Bill;
 
 /// The length of a ledger in bytes.
-pub const LEDGER_LENGTH: usize = 25_928;
+pub const LEDGER_LENGTH: usize = 26_184;
 
 /// How many contracts a ledger has room for.
 pub const CONTRACT_COUNT: usize = 64;
@@ -17,10 +17,13 @@ pub const ROW_COUNT: usize = 1_024;
 const CONTRACTS_AT: usize = 8;
 
 /// The byte at which the rows begin.
-const ROWS_AT: usize = 328;
+const ROWS_AT: usize = 584;
 
 /// The bytes of a contract.
-pub type ContractSlot = [u8; 5];
+pub type ContractSlot = [u8; 9];
+
+/// The bytes of a contract that isn't open.
+pub const UNOPENED: ContractSlot = [0; 9];
 
 /// The bytes of a row.
 pub type RowSlot = [u8; 25];
@@ -93,27 +96,36 @@ impl Header {
 }
 
 impl Contract {
-    /// The contract that a slot holds, or `None` where its numbers aren't in their ranges.
+    /// The contract that a slot holds, or `None` where its numbers aren't in their ranges. The slot
+    /// is read as two words that overlap, from bytes 0 and 1 on, so that each field is in one of
+    /// them.
     #[inline]
     pub fn unpack(slot: &ContractSlot, territory: u32) -> Option<Contract> {
-        let [a, b, c, d, e] = *slot;
-        let word = u64::from_be_bytes([0, 0, 0, a, b, c, d, e]);
-        if field(word, 39, 1) == 0 || field(word, 0, 4) != 0 {
+        let (start, end) = (word_at(slot, 0), word_at(slot, 1));
+        if field(start, 63, 1) == 0 || field(end, 0, 5) != 0 {
             return None;
         }
         let contract = Contract::from_numbers(
             territory,
-            short_field(word, 38, 1),
-            short_field(word, 36, 2),
-            short_field(word, 26, 10),
-            short_field(word, 16, 10),
+            short_field(start, 62, 1),
+            short_field(start, 60, 2),
+            short_field(start, 50, 10),
+            short_field(start, 40, 10),
         );
         let certificate =
-            Certificate::from_numbers(short_field(word, 14, 2), short_field(word, 4, 10));
-        Some(contract.ok()?.with(certificate.ok()?))
+            Certificate::from_numbers(short_field(start, 38, 2), short_field(start, 28, 10));
+        let unamended = contract.ok()?.with(certificate.ok()?);
+        let days = [25, 15, 5].map(|below| short_field(end, below, 10));
+        match (field(end, 35, 1), days) {
+            (0, [0, 0, 0]) => Some(unamended),
+            (0, _) => None,
+            (_, [original_end_day, price_fix_day, entry_day]) => unamended
+                .amended(original_end_day, price_fix_day, entry_day)
+                .ok(),
+        }
     }
 
-    /// The slot that holds the contract.
+    /// The slot that holds the contract: a word and a byte. The amendment straddles them.
     pub fn pack(&self) -> ContractSlot {
         let fuel = match self.fuel {
             Fuel::Electricity => 0,
@@ -133,15 +145,29 @@ impl Contract {
             Certificate::Etii { effective_day } => (1, effective_day),
             Certificate::Qhs { effective_day } => (2, effective_day),
         };
-        let word = 1 << 39
-            | fuel << 38
-            | kind << 36
-            | u64::from(price_fix_day) << 26
-            | u64::from(entry_day) << 16
-            | class << 14
-            | u64::from(effective_day) << 4;
-        let [_, _, _, slot @ ..] = word.to_be_bytes();
+        let amendment = self.amendment.map_or(0, Amendment::pack);
+        let start = 1 << 63
+            | fuel << 62
+            | kind << 60
+            | u64::from(price_fix_day) << 50
+            | u64::from(entry_day) << 40
+            | class << 38
+            | u64::from(effective_day) << 28
+            | amendment >> 3;
+        let mut slot = UNOPENED;
+        slot[..8].copy_from_slice(&start.to_be_bytes());
+        slot[8] = (amendment as u8) << 5;
         slot
+    }
+}
+
+impl Amendment {
+    /// The flag of an amended contract and the amendment's three days, in 31 bits.
+    fn pack(self) -> u64 {
+        1 << 30
+            | u64::from(self.original_end_day) << 20
+            | u64::from(self.price_fix_day) << 10
+            | u64::from(self.entry_day)
     }
 }
 

@@ -33,6 +33,12 @@ pub fn begins_within(slot: Option<&RowSlot>, numbers: BillNumbers) -> bool {
         .is_some_and(|(contract, first)| contract == numbers.contract && first <= numbers.last)
 }
 
+/// Whether a row of the contract ends after that day: its last row does if any does.
+pub fn ends_after(held: &[RowSlot], contract: u32, day: u32) -> bool {
+    let last = held[places_of_contract(held, contract)].last();
+    last.is_some_and(|slot| Row::unpack(slot).bill.last > day)
+}
+
 /// The places of a contract's rows.
 pub fn places_of_contract(held: &[RowSlot], contract: u32) -> Range<usize> {
     let begin = held.partition_point(|slot| Row::sort_key(slot).0 < contract);

@@ -1,9 +1,7 @@
 //! The run of document 01 (section "The program and one run"), the bytes of one bill, a full
 //! ledger, the last claim, and the landmark days.
 
-use twin::BillNumbers;
-
-const LEDGER_LENGTH: usize = 25_928;
+use twin::{BillNumbers, LEDGER_LENGTH};
 
 const BOOK: [u32; 1_740] = [0; 1_740];
 
@@ -71,7 +69,9 @@ fn the_bytes_of_a_bill() {
         Ok([11_400, 6_970, 4_667_890_319_741])
     );
     assert_eq!(ledger[..8], [0x80, 0, 0, 0, 0, 0, 0, 0]);
-    assert_eq!(ledger[8..18], [0, 0, 0, 0, 0, 0xE0, 0, 0, 0, 0]);
+    assert_eq!(ledger[8..17], [0; 9]);
+    assert_eq!(ledger[17..26], [0xE0, 0, 0, 0, 0, 0, 0, 0, 0]);
+    assert_eq!(ledger[26..584], [0; 558]);
     let row = concat!(
         "1",
         "000001",
@@ -85,12 +85,12 @@ fn the_bytes_of_a_bill() {
         "00000001000011111011010011111100011100000101111101",
         "00"
     );
-    let bits: String = ledger[328..353]
+    let bits: String = ledger[584..609]
         .iter()
         .map(|byte| format!("{byte:08b}"))
         .collect();
     assert_eq!(bits, row);
-    assert!(ledger[353..].iter().all(|&byte| byte == 0));
+    assert!(ledger[609..].iter().all(|&byte| byte == 0));
 }
 
 #[test]

@@ -1,9 +1,7 @@
 //! Bills and rebills of variable and index contracts within one scheme month (document 02, paper
 //! 2): number 15, and the calls on a row across months that a ledger holds.
 
-use twin::BillNumbers;
-
-const LEDGER_LENGTH: usize = 25_928;
+use twin::{BillNumbers, LEDGER_LENGTH};
 
 /// A book in which every price is R 31,980.
 const BOOK: [u32; 1_740] = [31_980; 1_740];

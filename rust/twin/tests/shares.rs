@@ -1,12 +1,10 @@
 //! Bills with an ETII share and a QHS share (document 02, paper 1): number 14, amounts, calls on
 //! such bills, and the rows that a well-formed ledger has of them.
 
-use twin::BillNumbers;
-
-const LEDGER_LENGTH: usize = 25_928;
+use twin::{BillNumbers, LEDGER_LENGTH};
 
 /// The byte at which the first row begins.
-const FIRST_ROW: usize = 328;
+const FIRST_ROW: usize = 584;
 
 const BOOK: [u32; 1_740] = [0; 1_740];
 

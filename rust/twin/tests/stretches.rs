@@ -2,9 +2,7 @@
 //! paper 3): amounts over stretches, the rate answered, calls on such bills, and the amounts that
 //! a well-formed ledger has of them.
 
-use twin::BillNumbers;
-
-const LEDGER_LENGTH: usize = 25_928;
+use twin::{BillNumbers, LEDGER_LENGTH};
 
 const FIXED: u32 = 0;
 const FLEXIBLE: u32 = 2;
