@@ -12,6 +12,7 @@ use Rattle.model.specs.declared.Answer.{Answer}
 use Rattle.model.specs.declared.Answer.the-variants.{Billed, Rebilled, Cancelled}
 use Rattle.model.specs.Calls.{named}
 use Rattle.model.specs.Ledger.{Ledger, comesAfter, insert, replace, remove, amountOf, priced, withRows}
+use Rattle.model.specs.PresentRules.{byTerms}
 use Rattle.model.specs.Places.{placeOf}
 use Rattle.model.specs.WellFormed.{RowOk}
 use Rattle.layout.specs.Present.{Searched, rules, facts, contracts, bytes}
@@ -36,13 +37,13 @@ pub record Changed (said : Answer) (after : List ℕ) (answer : Answer) (next : 
 
 -- the answers, and the facts left
 abbrev pub billed : Contract → Bill → Answer
-billed k x = Billed (x .reference) (rate k x) (amount k x)
+billed k x = Billed (x .reference) (byTerms rate k x) (byTerms amount k x)
 
 abbrev pub rowAdded : Ledger → Contract → Bill → Ledger
 rowAdded l k x = withRows l (insert (priced rules k x) (l .rows))
 
 abbrev pub rebilled : Ledger → Contract → Bill → Answer
-rebilled l k x = Rebilled (x .reference) (rate k x) (subℕ (amount k x) (amountOf (named (x .contract) (x .first)) (l .rows)))
+rebilled l k x = Rebilled (x .reference) (byTerms rate k x) (subℕ (byTerms amount k x) (amountOf (named (x .contract) (x .first)) (l .rows)))
 
 abbrev pub rowReplaced : Ledger → Contract → Bill → Ledger
 rowReplaced l k x = withRows l (replace (named (x .contract) (x .first)) (priced rules k x) (l .rows))

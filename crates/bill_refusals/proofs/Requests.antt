@@ -11,6 +11,7 @@ use borrow.Author.Tests.{ltb-true, le-leb, lt-leb, le-ltb, lt-ltb}
 use Rattle.limits.specs.Limits.{rowCount}
 use Rattle.basics.proofs.Lists.{count-true}
 use Rattle.rates.specs.declared.Contract.{Contract}
+use Rattle.rates.specs.TermsTaken.{crossesEnd}
 use Rattle.amounts.specs.declared.Bill.{Bill}
 use Rattle.model.specs.declared.Request.{Request}
 use Rattle.model.specs.Contracts.{contractAt}
@@ -117,12 +118,15 @@ module _ (b : List ℕ) (c : ℕ) (k : Contract) (read : k ≡ contractAt (contr
     pub months-found : (first last : ℕ) → r ≡ badMonths (k .kind) first last → r ≡ v → badMonths (contractAt (viewOf b .contracts) c .kind) first last ≡ v
     months-found first last = test-found (λ j. badMonths (j .kind) first last)
 
+    pub end-found : (first last : ℕ) → r ≡ crossesEnd (k .amendment) first last → r ≡ v → crossesEnd (contractAt (viewOf b .contracts) c .amendment) first last ≡ v
+    end-found first last = test-found (λ j. crossesEnd (j .amendment) first last)
+
     pub amounts-found : (q : Request) → r ≡ badAmounts k q → r ≡ v → badAmounts (contractAt (viewOf b .contracts) c) q ≡ v
     amounts-found q = test-found (λ j. badAmounts j q)
 
     pub price-found : (price : ℕ) → r ≡ noPrice (k .kind) price → r ≡ v → noPrice (contractAt (viewOf b .contracts) c .kind) price ≡ v
     price-found price = test-found (λ j. noPrice (j .kind) price)
 
-pub ruleset request-refusals = (refusals, open-refused, open-passed, months-found, amounts-found)
+pub ruleset request-refusals = (refusals, open-refused, open-passed, months-found, end-found, amounts-found)
 
 pub ruleset row-refusals = (refusals, no-row, a-row, full, not-full, price-found)

@@ -9,6 +9,7 @@ use ledger::rows::row_shares_day;
 use limits::ROW_COUNT;
 use model::Request;
 use rates::Contract;
+use rates::crosses_end;
 use rules::book::bad_book;
 use rules::book::bill_under;
 use rules::book::no_price;
@@ -55,6 +56,10 @@ pub fn requested_bill(b: &[u8], book: &[u32], request: Request) -> Requested
     let kind = contract.kind;
     if bad_months(kind, request.first, request.last) {
         return Requested::Refused(15);
+    }
+    let amendment = contract.amendment;
+    if crosses_end(amendment, request.first, request.last) {
+        return Requested::Refused(17);
     }
     if bad_amounts(contract, request) {
         return Requested::Refused(8);

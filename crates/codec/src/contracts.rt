@@ -4,7 +4,7 @@ use rates::Contract;
 use records::numbers::get_window;
 use records::numbers::put_all;
 use rules::codes;
-use rules::ranges::ContractNumbers;
+use rules::codes::ContractNumbers;
 use rules::ranges::contract_ranges;
 ghost use mathlib.Core.Path.{_≡_};
 ghost use mathlib.Core.Bool.{not};
@@ -17,6 +17,7 @@ ghost use Rattle.layout.specs.PresentLayout.{contractRecord};
 ghost use Rattle.layout.specs.Offsets.{contractLength};
 ghost use Rattle.records.specs.OneSlot.{slotNumbers, isTaken, recordIn, recordBytes};
 ghost use Rattle.model.specs.PresentRules.{contractRanges};
+ghost use Rattle.rules.specs.ContractListed.{listed};
 
 // The widths of the fields and of the zeros after them, in bits.
 const FUEL_BITS: usize = 1;
@@ -84,29 +85,31 @@ pub fn is_open(s: &[u8]) -> bool
     get_window(s, 0, 0, 1) != 0
 }
 
+// The numbers of the contract that a slot holds.
+fn numbers_in(s: &[u8]) -> ContractNumbers
+    requires { ⌜ length (now s) ≡ contractLength ⌝ }
+    ensures { λ r. ⌜ listed r ≡ recordFields contractRecord (slotNumbers contractRecord (now (s .entry))) ⌝ }
+{
+    ContractNumbers {
+        fuel: get_window(s, 0, FUEL_AT, FUEL_BITS),
+        kind: get_window(s, 0, KIND_AT, KIND_BITS),
+        price_fix_day: get_window(s, 0, PRICE_FIX_AT, DAY_BITS),
+        entry_day: get_window(s, 0, ENTRY_AT, DAY_BITS),
+        class: get_window(s, 0, CLASS_AT, CLASS_BITS),
+        effective_day: get_window(s, 0, EFFECTIVE_AT, DAY_BITS),
+        amendment_flag: get_window(s, 0, FLAG_AT, FLAG_BITS),
+        original_end: get_window(s, 0, ORIGINAL_END_AT, DAY_BITS),
+        amended_price_fix_day: get_window(s, 0, AMENDED_PRICE_FIX_AT, DAY_BITS),
+        amended_entry_day: get_window(s, LAST_WINDOW, AMENDED_ENTRY_AT, DAY_BITS),
+    }
+}
+
 // The contract that a slot holds.
 pub fn unpack_contract(s: &[u8]) -> Contract
     requires { ⌜ length (now s) ≡ contractLength ⌝ }
     ensures { λ r. ⌜ r ≡ recordIn contractRecord (now (s .entry)) ⌝ }
 {
-    Contract {
-        fuel: codes::fuel_of(get_window(s, 0, FUEL_AT, FUEL_BITS)),
-        kind: codes::kind_of(
-            get_window(s, 0, KIND_AT, KIND_BITS),
-            get_window(s, 0, PRICE_FIX_AT, DAY_BITS),
-            get_window(s, 0, ENTRY_AT, DAY_BITS),
-        ),
-        certificate: codes::certificate_of(
-            get_window(s, 0, CLASS_AT, CLASS_BITS),
-            get_window(s, 0, EFFECTIVE_AT, DAY_BITS),
-        ),
-        amendment: codes::amendment_of(
-            get_window(s, 0, FLAG_AT, FLAG_BITS),
-            get_window(s, 0, ORIGINAL_END_AT, DAY_BITS),
-            get_window(s, 0, AMENDED_PRICE_FIX_AT, DAY_BITS),
-            get_window(s, LAST_WINDOW, AMENDED_ENTRY_AT, DAY_BITS),
-        ),
-    }
+    codes::contract_of(numbers_in(s))
 }
 
 // The numbers of the slot that holds the contract.
@@ -156,19 +159,7 @@ fn in_ranges(s: &[u8], territory: u32) -> bool
     requires { ⌜ length (now s) ≡ contractLength ⌝ }
     ensures { λ r. ⌜ r ≡ contractRanges territory (recordFields contractRecord (slotNumbers contractRecord (now (s .entry)))) ⌝ }
 {
-    let numbers = ContractNumbers {
-        fuel: get_window(s, 0, FUEL_AT, FUEL_BITS),
-        kind: get_window(s, 0, KIND_AT, KIND_BITS),
-        price_fix_day: get_window(s, 0, PRICE_FIX_AT, DAY_BITS),
-        entry_day: get_window(s, 0, ENTRY_AT, DAY_BITS),
-        class: get_window(s, 0, CLASS_AT, CLASS_BITS),
-        effective_day: get_window(s, 0, EFFECTIVE_AT, DAY_BITS),
-        amendment_flag: get_window(s, 0, FLAG_AT, FLAG_BITS),
-        original_end: get_window(s, 0, ORIGINAL_END_AT, DAY_BITS),
-        amended_price_fix_day: get_window(s, 0, AMENDED_PRICE_FIX_AT, DAY_BITS),
-        amended_entry_day: get_window(s, LAST_WINDOW, AMENDED_ENTRY_AT, DAY_BITS),
-    };
-    contract_ranges(territory, numbers)
+    contract_ranges(territory, numbers_in(s))
 }
 
 // All of the slot is zero.

@@ -1,12 +1,14 @@
--- What open and cert answer and leave, by the number that turns them down and by what is written. Assumes nothing.
+-- What open, cert and amend answer and leave, by the number that turns them down and by what is written. Assumes nothing.
 use mathlib.Core.Path.{_≡_, refl, sym, ap, ap₂, _∙_}
-use mathlib.Core.Bool.{Bool, true}
+use mathlib.Core.Bool.{Bool, true, false}
 use mathlib.Core.List.{List, [], map}
-use Prim.Native.Nat.{ℕ, _+_, _*_, _^_, _<_}
+use Prim.Native.Nat.{ℕ, _+_, _*_, _^_, _<_, _≤_}
 use native.Mathlib.Omega.{arith}
+use lib.Dec.{leb}
 use lib.IntN.{ℤ, subℕ}
-use Rattle.limits.specs.Limits.{contractCount}
+use Rattle.limits.specs.Limits.{lastDay, firstSchemeDay, contractCount}
 use Rattle.basics.specs.Lists.{total}
+use Rattle.basics.proofs.Tests.{not-no, le-yes, and-right, or-no-left}
 use Rattle.fields.specs.Fields.{Fit}
 use Rattle.records.specs.Edits.{replaceAt}
 use Rattle.records.specs.OneSlot.{recordBytes}
@@ -14,12 +16,12 @@ use Rattle.rates.specs.declared.Contract.{Contract}
 use Rattle.model.specs.declared.Answer.the-variants.{Refused, Done, Certified}
 use Rattle.model.specs.declared.Call.{Call}
 use Rattle.model.specs.Calls.{_with_}
-use Rattle.model.specs.Codes.{opening, certify}
+use Rattle.model.specs.Codes.{opening, certify, amend}
 use Rattle.model.specs.Contracts.{contractAt, isOpen}
 use Rattle.model.specs.Rules.{refusal}
-use Rattle.model.specs.PresentRules.{badKind, tests}
+use Rattle.model.specs.PresentRules.{badKind, notAmendable, badAmendmentDays, tests}
 use Rattle.model.specs.Ledger.{view, due, withRows, rerated, accept}
-use Rattle.model.proofs.RulesLaws.{Opened, Certified as Taken}
+use Rattle.model.proofs.RulesLaws.{Opened, Certified as Taken, Amended}
 use Rattle.layout.specs.Layout.{territoryIn, ledgerOf}
 use Rattle.layout.specs.PresentLayout.{contractRecord}
 use Rattle.layout.specs.Offsets.{firstContract, contractLength}
@@ -94,10 +96,10 @@ module _ (b : List ℕ) (rows contract class effective : ℕ) where
           let kept = facts-kept b (ok .searched .formed) in
           contract-fits (viewOf b .territory) k (rw is-certified (accepted-cert .ranges _ (kept .contracts contract (accepted-cert .isOpened))))
 
-      -- it has the contract's fuel and kind
+      -- it has the contract's fuel, kind and amendment
       pub certified-terms : Rerateable b rows contract k
       unfolding certify
-      certified-terms = record { searched = ok .searched; number = certified-number; fuel = rw (made, read); kind = rw (made, read) }
+      certified-terms = record { searched = ok .searched; number = certified-number; fuel = rw (made, read); kind = rw (made, read); amendment = rw (made, read) }
 
       module _ (r : Rerated) (rated : List ℕ) (t : RowsRerated contract k b r rated) where
         -- the two sums are small enough for their difference
@@ -116,3 +118,50 @@ module _ (b : List ℕ) (rows contract class effective : ℕ) where
             accepted-answered b _ (ok .searched .formed) (ok .accepted)
             (rw (sums, t .changed, is-certified))
             (written-contract (withRows (facts b) (map (rerated rules contract k) (facts b .rows))) rated after (t .left) contract k certified-number put ∙ rw is-certified)
+
+-- ---- amend
+
+-- the test of the contract that was read
+pub amendable-found : (b : List ℕ) (c : ℕ) (k : Contract) → k ≡ contractAt (contracts b) c → (r v : Bool) → r ≡ notAmendable k → r ≡ v → notAmendable (contractAt (viewOf b .contracts) c) ≡ v
+unfolding view ledgerOf
+amendable-found b c k read r v e f = ap notAmendable (sym read) ∙ sym e ∙ f
+
+-- an original end that passes the test of its days is a day
+pub end-low : (end fix entry : ℕ) (r : Bool) → r ≡ badAmendmentDays end fix entry → r ≡ false → end ≤ lastDay
+unfolding badAmendmentDays
+end-low end fix entry r e f = le-yes end lastDay (and-right (leb firstSchemeDay end) _ (not-no _ (or-no-left _ _ (sym e ∙ f))))
+
+module _ (b : List ℕ) (rows contract end fix entry n : ℕ) (s : Searched b rows) (e : n ≡ refusal rules (viewOf b) (Call.Amend contract end fix entry with [])) where
+  pub not-amended : (n ≡ 0 → ⊥) → AnsweredWithAnyBook b (Call.Amend contract end fix entry) (Refused n) b
+  unfolding refusal tests
+  not-amended some book = refused-answered b _ n (s .formed) e some
+
+  module _ (none : n ≡ 0) where
+    accepted-amend : Amended rules (viewOf b) contract end fix entry
+    accepted-amend = present .rules .amends (viewOf b) contract end fix entry [] (sym e ∙ none)
+
+    pub amended-number : contract < contractCount
+    amended-number = accepted-amend .number
+
+    pub amended-open : isOpen (contracts b) contract ≡ true
+    unfolding view ledgerOf
+    amended-open = accepted-amend .isOpened
+
+    -- the contract that was read, and that with the amendment
+    module _ (old k : Contract) (read : old ≡ contractAt (contracts b) contract) (made : k ≡ amend old end fix entry) where
+      is-amended : k ≡ amend (contractAt (facts b .contracts) contract) end fix entry
+      unfolding ledgerOf
+      is-amended = made ∙ ap (λ (c : Contract). amend c end fix entry) read
+
+      pub amended-fits : Fit (contractRecord .widths) (contractRecord .values k)
+      unfolding view
+      amended-fits =
+          let kept = facts-kept b (s .formed) in
+          contract-fits (viewOf b .territory) k (rw is-amended (accepted-amend .ranges (kept .contracts contract (accepted-amend .isOpened))))
+
+      pub amended : (after : List ℕ) → after ≡ replaceAt (firstContract + contract * contractLength) (recordBytes contractRecord k) b
+          → AnsweredWithAnyBook b (Call.Amend contract end fix entry) Done after
+      unfolding refusal tests accept
+      amended after put book =
+          accepted-answered b _ (s .formed) (sym none ∙ e) refl
+          (written-contract (facts b) b after (sym (repacked b (s .formed))) contract k amended-number put ∙ rw is-amended)

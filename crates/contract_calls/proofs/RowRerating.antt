@@ -10,24 +10,27 @@ use Rattle.records.specs.Edits.{replaceAt}
 use Rattle.records.specs.OneSlot.{recordBytes}
 use Rattle.records.proofs.Replaced.{replaced-same}
 use Rattle.rates.specs.declared.Contract.{Contract}
+use Rattle.rates.specs.declared.Terms.{Terms}
+use Rattle.rates.specs.TermsTaken.{termsFor}
 use Rattle.amounts.specs.Amounts.{hasShares, amount, Rateable}
 use Rattle.amounts.proofs.AmountBounds.{amount-bits}
 use Rattle.model.specs.declared.Row.{Row}
 use Rattle.model.specs.Ledger.{withAmount, priced, rerated}
+use Rattle.model.specs.PresentRules.{byTerms}
 use Rattle.layout.specs.PresentLayout.{rowRecord}
 use Rattle.layout.specs.Offsets.{rowStart, rowLength}
 use Rattle.layout.specs.Present.{rowAt, rules}
 use Rattle.layout.proofs.Present.{row-in-slot}
 use Rattle.contract_calls.specs.Rerating.{RowInSlot, newAmount, RowRerated}
 
--- ---- a row of another contract is as it was, and one of the contract has its amount under the terms
+-- ---- a row of another contract is as it was, and one of the contract has its amount under the certified one
 
-module _ (contract : ℕ) (terms : Contract) (x : Row) where
-  pub other-row : (x .bill .contract ≡ contract → ⊥) → rerated rules contract terms x ≡ x
+module _ (contract : ℕ) (certified : Contract) (x : Row) where
+  pub other-row : (x .bill .contract ≡ contract → ⊥) → rerated rules contract certified x ≡ x
   unfolding rerated
   other-row n = rw (no-eq _ _ n)
 
-  pub own-row : x .bill .contract ≡ contract → rerated rules contract terms x ≡ withAmount x (amount terms (x .bill))
+  pub own-row : x .bill .contract ≡ contract → rerated rules contract certified x ≡ withAmount x (byTerms amount certified (x .bill))
   unfolding rerated priced
   own-row e = rw (yes-eq _ _ e)
 
@@ -42,7 +45,7 @@ module _ (new old : ℕ) where
 
 -- ---- the row x of slot i, which is one of the contract
 
-module _ (b : List ℕ) (i contract : ℕ) (terms : Contract) (slot : RowInSlot b i contract terms) (x : Row) (read : x ≡ rowAt b i) where
+module _ (b : List ℕ) (i contract : ℕ) (certified : Contract) (slot : RowInSlot b i contract certified) (x : Row) (read : x ≡ rowAt b i) where
   pub bill-rateable : Rateable (x .bill)
   bill-rateable = rw read (slot .rateable)
 
@@ -52,13 +55,13 @@ module _ (b : List ℕ) (i contract : ℕ) (terms : Contract) (slot : RowInSlot 
   is-old : x .amount ≡ rowAt b i .amount
   is-old = ap (λ (y : Row). y .amount) read
 
-  new : (a : ℕ) → a ≡ amount terms (x .bill) → rerated rules contract terms (rowAt b i) ≡ withAmount (rowAt b i) a
-  new a rated = own-row contract terms (rowAt b i) (slot .own) ∙ ap (withAmount (rowAt b i)) (sym (rw read at rated))
+  new : (a : ℕ) → a ≡ byTerms amount certified (x .bill) → rerated rules contract certified (rowAt b i) ≡ withAmount (rowAt b i) a
+  new a rated = own-row contract certified (rowAt b i) (slot .own) ∙ ap (withAmount (rowAt b i)) (sym (rw read at rated))
 
   -- its amount stays
-  row-stays : x .amount ≡ amount terms (x .bill) → RowRerated contract terms b i (record { old = x .amount; new = x .amount; changed = 0 }) b
+  row-stays : x .amount ≡ byTerms amount certified (x .bill) → RowRerated contract certified b i (record { old = x .amount; new = x .amount; changed = 0 }) b
   row-stays same =
-      let is : rerated rules contract terms (rowAt b i) ≡ rowAt b i = new (x .amount) same ∙ ap (withAmount (rowAt b i)) is-old in
+      let is : rerated rules contract certified (rowAt b i) ≡ rowAt b i = new (x .amount) same ∙ ap (withAmount (rowAt b i)) is-old in
       record {
         old = is-old;
         new = ap (λ (y : Row). y .amount) (read ∙ sym is);
@@ -66,21 +69,24 @@ module _ (b : List ℕ) (i contract : ℕ) (terms : Contract) (slot : RowInSlot 
         left = sym (ap (λ (bytes : List ℕ). replaceAt (rowStart i) bytes b) (ap (recordBytes rowRecord) (is ∙ row-in-slot b i) ∙ slot .packed) ∙ replaced-same (rowStart i) rowLength b (omega (arith, slot .long, slot .inside)));
       }
 
-  pub shares-stay : (h : Bool) → h ≡ hasShares (x .bill) → h ≡ true → RowRerated contract terms b i (record { old = x .amount; new = x .amount; changed = 0 }) b
+  pub shares-stay : (h : Bool) → h ≡ hasShares (x .bill) → h ≡ true → RowRerated contract certified b i (record { old = x .amount; new = x .amount; changed = 0 }) b
   shares-stay h e some = row-stays (rw read (sym (slot .set-aside (rw read at (sym e ∙ some)))))
 
-  -- its amount under the terms is a
-  module _ (a : ℕ) (rated : a ≡ amount terms (x .bill)) where
-    pub amount-stays : a ≡ x .amount → RowRerated contract terms b i (record { old = x .amount; new = x .amount; changed = 0 }) b
+  -- its amount under the certified contract is a, by the terms of its first day
+  module _ (terms : Terms) (taken : terms ≡ termsFor certified (x .bill .first)) (a : ℕ) (is : a ≡ amount terms (x .bill)) where
+    rated : a ≡ byTerms amount certified (x .bill)
+    rated = is ∙ ap (λ (t : Terms). amount t (x .bill)) taken
+
+    pub amount-stays : a ≡ x .amount → RowRerated contract certified b i (record { old = x .amount; new = x .amount; changed = 0 }) b
     amount-stays same = row-stays (sym same ∙ rated)
 
     pub new-amount-low : a < 2 ^ 50
-    new-amount-low = let fits = amount-bits terms (rowAt b i .bill) (slot .rateable) in rw (rated, read) fits
+    new-amount-low = omega (arith, is, amount-bits terms (x .bill) bill-rateable)
 
     pub amount-changes : (a ≡ x .amount → ⊥) → (after : List ℕ) → after ≡ replaceAt (rowStart i) (recordBytes rowRecord (withAmount (rowAt b i) a)) b
-        → RowRerated contract terms b i (record { old = x .amount; new = a; changed = 1 }) after
+        → RowRerated contract certified b i (record { old = x .amount; new = a; changed = 1 }) after
     amount-changes other after put =
-        let is-new : a ≡ newAmount contract terms (rowAt b i) = sym (ap (λ (y : Row). y .amount) (new a rated)) in
+        let is-new : a ≡ newAmount contract certified (rowAt b i) = sym (ap (λ (y : Row). y .amount) (new a rated)) in
         record {
           old = is-old;
           new = is-new;

@@ -17,6 +17,7 @@ use Rattle.model.specs.declared.Call.{Call}
 use Rattle.model.specs.Calls.{_with_}
 use Rattle.model.specs.Rules.{refusal}
 use Rattle.model.specs.Contracts.{contractAt}
+use Rattle.model.specs.PresentRules.{byTerms}
 use Rattle.model.specs.Ledger.{ofContract, rerated, withRows}
 use Rattle.layout.specs.PresentLayout.{rowRecord}
 use Rattle.layout.specs.Offsets.{ledgerLength, rowStart, rowPart}
@@ -29,26 +30,27 @@ pub record Certifiable (b : List ℕ) (rows contract class effective : ℕ) : Ty
   pub searched : Searched b rows
   pub accepted : 0 ≡ refusal rules (viewOf b) (Call.Cert contract class effective with [])
 
--- a well-formed ledger with that many rows, the number of a contract, and terms that differ from the contract's in the certificate alone
-pub record Rerateable (b : List ℕ) (rows contract : ℕ) (terms : Contract) : Type 0 where
+-- a well-formed ledger with that many rows, the number of a contract, and a contract that differs from that one in the certificate alone
+pub record Rerateable (b : List ℕ) (rows contract : ℕ) (certified : Contract) : Type 0 where
   pub searched : Searched b rows
   pub number : contract < contractCount
-  pub fuel : terms .fuel ≡ contractAt (contracts b) contract .fuel
-  pub kind : terms .kind ≡ contractAt (contracts b) contract .kind
+  pub fuel : certified .fuel ≡ contractAt (contracts b) contract .fuel
+  pub kind : certified .kind ≡ contractAt (contracts b) contract .kind
+  pub amendment : certified .amendment ≡ contractAt (contracts b) contract .amendment
 
--- slot i holds a row of the contract that can be rated, and whose amount stays under the terms where it has shares
-pub record RowInSlot (b : List ℕ) (i contract : ℕ) (terms : Contract) : Type 0 where
+-- slot i holds a row of the contract that can be rated, and whose amount stays under the certified contract where it has shares
+pub record RowInSlot (b : List ℕ) (i contract : ℕ) (certified : Contract) : Type 0 where
   pub long : length b ≡ ledgerLength
   pub inside : i < rowCount
   pub packed : IsPacked rowRecord (rowPart b i)
   pub own : rowAt b i .bill .contract ≡ contract
   pub rateable : Rateable (rowAt b i .bill)
-  pub set-aside : hasShares (rowAt b i .bill) ≡ true → amount terms (rowAt b i .bill) ≡ rowAt b i .amount
+  pub set-aside : hasShares (rowAt b i .bill) ≡ true → byTerms amount certified (rowAt b i .bill) ≡ rowAt b i .amount
 
-module _ (contract : ℕ) (terms : Contract) where
-  -- a row's amount under the terms, where it is a row of the contract
+module _ (contract : ℕ) (certified : Contract) where
+  -- a row's amount under the certified contract, where it is a row of the contract
   abbrev pub newAmount : Row → ℕ
-  newAmount x = rerated rules contract terms x .amount
+  newAmount x = rerated rules contract certified x .amount
 
   -- whether that is another amount
   abbrev pub amountChanges : Row → Bool
@@ -59,12 +61,12 @@ module _ (contract : ℕ) (terms : Contract) where
     pub old : found .old ≡ rowAt b i .amount
     pub new : found .new ≡ newAmount (rowAt b i)
     pub changed : found .changed ≡ cond (amountChanges (rowAt b i)) 1 0
-    pub left : after ≡ replaceAt (rowStart i) (recordBytes rowRecord (rerated rules contract terms (rowAt b i))) b
+    pub left : after ≡ replaceAt (rowStart i) (recordBytes rowRecord (rerated rules contract certified (rowAt b i))) b
 
   -- the rows of the contract: the sums of their old and new amounts, how many differ, and the bytes with the rows re-rated
   pub record RowsRerated (b : List ℕ) (found : Rerated) (after : List ℕ) : Type 0 where
     pub old : found .old ≡ total (λ x. cond (ofContract contract x) (x .amount) 0) (facts b .rows)
     pub new : found .new ≡ total (λ x. cond (ofContract contract x) (newAmount x) 0) (facts b .rows)
     pub changed : found .changed ≡ count amountChanges (facts b .rows)
-    pub left : after ≡ bytes (withRows (facts b) (map (rerated rules contract terms) (facts b .rows)))
+    pub left : after ≡ bytes (withRows (facts b) (map (rerated rules contract certified) (facts b .rows)))
     pub long : length after ≡ ledgerLength

@@ -1,8 +1,9 @@
-// The calls that start a ledger, open a contract and replace a contract's certificate.
+// The calls that start a ledger, open a contract, replace a contract's certificate and amend a contract.
 mod contracts;
 mod refusals;
 mod rerating;
 
+use contracts::amended;
 use contracts::certify;
 use contracts::opening;
 use edits::fresh;
@@ -10,6 +11,7 @@ use edits::write_contract;
 use layout::LEDGER_LENGTH;
 use ledger::contracts::contract_at;
 use model::Answer;
+use refusals::refused_amend;
 use refusals::refused_cert;
 use refusals::refused_open;
 use rerating::rerate_rows;
@@ -87,4 +89,38 @@ pub fn cert(ledger: &mut [u8], rows: usize, contract: u32, class: u32, effective
         return Answer::Refused(refused);
     }
     accepted_cert(ledger, rows, contract, class, effective_day)
+}
+
+// amend: an original end of a fixed contract, and the days of bills that start after it.
+pub fn amend(
+    ledger: &mut [u8],
+    rows: usize,
+    contract: u32,
+    original_end: u32,
+    price_fix_day: u32,
+    entry_day: u32,
+) -> Answer
+    requires { ⌜ Searched (now ledger) rows ⌝ }
+    ensures { λ r. ⌜ AnsweredWithAnyBook (now (ledger .entry)) (Call.Amend contract «original_end» «price_fix_day» «entry_day») r (now (ledger .exit)) ⌝ }
+{
+    let refused = refused_amend(
+        ledger,
+        rows,
+        contract,
+        original_end,
+        price_fix_day,
+        entry_day,
+    );
+    if refused != 0 {
+        return Answer::Refused(refused);
+    }
+    let c = contract as usize;
+    let changed = amended(
+        contract_at(ledger, c),
+        original_end,
+        price_fix_day,
+        entry_day,
+    );
+    write_contract(ledger, c, changed);
+    Answer::Done
 }

@@ -1,8 +1,9 @@
-// The rows of a contract re-rated, under its terms with the new certificate.
+// The rows of a contract re-rated, under the contract with the new certificate.
 use edits::replace_amount;
 use ledger::rows::first_reaching;
 use ledger::rows::row_at;
 use rates::Contract;
+use rates::terms_for;
 ghost use Rattle.contract_calls.specs.Rerating.{Rerateable, RowInSlot, RowRerated, RowsRerated};
 
 // What re-rating finds: the sums of the old and of the new amounts, and how many of the amounts changed.
@@ -13,9 +14,9 @@ pub struct Rerated {
 }
 
 // Re-rates row i, which is a row of the contract. One with shares keeps its amount: the certificate is set aside.
-fn rerate_row(b: &mut [u8], i: usize, contract: u32, terms: Contract) -> Rerated
-    requires { ⌜ RowInSlot (now b) i contract terms ⌝ }
-    ensures { λ r. ⌜ RowRerated contract terms (now (b .entry)) i r (now (b .exit)) ⌝ }
+fn rerate_row(b: &mut [u8], i: usize, contract: u32, certified: Contract) -> Rerated
+    requires { ⌜ RowInSlot (now b) i contract certified ⌝ }
+    ensures { λ r. ⌜ RowRerated contract certified (now (b .entry)) i r (now (b .exit)) ⌝ }
 {
     let row = row_at(b, i);
     let bill = row.bill;
@@ -26,7 +27,7 @@ fn rerate_row(b: &mut [u8], i: usize, contract: u32, terms: Contract) -> Rerated
             changed: 0,
         };
     }
-    let amount = amounts::whole_amount(terms, bill);
+    let amount = amounts::whole_amount(terms_for(certified, bill.first), bill);
     if amount == row.amount {
         return Rerated {
             old: row.amount,
@@ -43,9 +44,9 @@ fn rerate_row(b: &mut [u8], i: usize, contract: u32, terms: Contract) -> Rerated
 }
 
 // Re-rates the rows of the contract, which stand together.
-pub fn rerate_rows(b: &mut [u8], rows: usize, contract: u32, terms: Contract) -> Rerated
-    requires { ⌜ Rerateable (now b) rows contract terms ⌝ }
-    ensures { λ r. ⌜ RowsRerated contract terms (now (b .entry)) r (now (b .exit)) ⌝ }
+pub fn rerate_rows(b: &mut [u8], rows: usize, contract: u32, certified: Contract) -> Rerated
+    requires { ⌜ Rerateable (now b) rows contract certified ⌝ }
+    ensures { λ r. ⌜ RowsRerated contract certified (now (b .entry)) r (now (b .exit)) ⌝ }
 {
     let mut i = first_reaching(b, rows, contract, 0);
     let end = first_reaching(b, rows, contract + 1, 0);
@@ -53,7 +54,7 @@ pub fn rerate_rows(b: &mut [u8], rows: usize, contract: u32, terms: Contract) ->
     let mut new: u64 = 0;
     let mut changed: u32 = 0;
     while i < end {
-        let row = rerate_row(b, i, contract, terms);
+        let row = rerate_row(b, i, contract, certified);
         old = old + row.old;
         new = new + row.new;
         changed = changed + row.changed;

@@ -12,15 +12,17 @@ use Rattle.basics.specs.Lists.{All}
 use Rattle.basics.proofs.Tests.{either, lt-yes, lt-no}
 use Rattle.amounts.specs.declared.Bill.{Bill}
 use Rattle.model.specs.declared.Row.{Row}
-use Rattle.model.specs.Calls.{named}
+use Rattle.model.specs.Calls.{named, endsAfter}
+use Rattle.model.specs.Ledger.{view}
 use Rattle.model.specs.Places.{placeOf, firstPasses, reaches}
 use Rattle.model.specs.WellFormed.{Apart}
 use Rattle.model.proofs.Places.{place-le, passes-at-place}
 use Rattle.model.proofs.RowOrder.{Span}
 use Rattle.model.proofs.RowBounds.{row-spans}
-use Rattle.model.proofs.SortedRows.{passed-row, failed-row, reaches-rising, named-place}
+use Rattle.model.proofs.SortedRows.{passed-row, failed-row, reaches-rising, named-place, ends-at}
 use Rattle.layout.specs.Present.{facts, rowAt, Searched}
 use Rattle.layout.proofs.Present.{present, facts-kept}
+use Rattle.ledger.specs.Answered.{viewOf}
 use Rattle.ledger.proofs.EachRow.{row-there, row-read}
 
 none-beyond : (q : Bill → Bool) (xs : List Row) (i : ℕ) → length xs ≤ i → false ≡ firstPasses q (drop i xs)
@@ -98,6 +100,21 @@ module _ (b : List ℕ) (rows : ℕ) (s : Searched b rows) where
 
       pub named-other : r ≡ false → rows ≡ placeOf (named contract first) (facts b .rows)
       named-other n = named-by false (sym n ∙ first-there (named contract first) place x read h r e)
+
+-- ---- a row of a contract that ends after a day
+
+module _ (b : List ℕ) (rows : ℕ) (s : Searched b rows) (contract day place : ℕ) (at : place ≡ placeOf (reaches contract (day + 1)) (facts b .rows)) where
+  ended-by : (r : Bool) → r ≡ firstPasses (endsAfter contract day) (drop place (facts b .rows)) → r ≡ ltb 0 (viewOf b .held (endsAfter contract day))
+  unfolding view
+  ended-by r e =
+      e ∙ ap (λ (n : ℕ). firstPasses (endsAfter contract day) (drop n (facts b .rows))) at
+      ∙ sym (ends-at contract day (facts b .rows) (spans b rows s) (apart b rows s))
+
+  pub none-ends : rows ≤ place → false ≡ ltb 0 (viewOf b .held (endsAfter contract day))
+  none-ends h = ended-by false (first-none b rows s (endsAfter contract day) place h)
+
+  pub first-ends : (x : Row) → x ≡ rowAt b place → place < rows → (r : Bool) → r ≡ endsAfter contract day (x .bill) → r ≡ ltb 0 (viewOf b .held (endsAfter contract day))
+  first-ends x read h r e = ended-by r (first-there b rows s (endsAfter contract day) place x read h r e)
 
 pub search-ends : (b : List ℕ) (p : Bill → Bool) (low high : ℕ) → Between b p low high → high ≤ low → low ≡ placeOf p (facts b .rows)
 search-ends b p low high t h = omega (arith, t .from, t .to)

@@ -4,14 +4,16 @@ use layout::FIRST_ROW;
 use layout::ROW_LENGTH;
 use model::Row;
 ghost use mathlib.Core.Path.{_≡_};
-ghost use Prim.Native.Nat.{_<_};
+ghost use Prim.Native.Nat.{_<_, _≤_};
+ghost use lib.Dec.{ltb};
 ghost use lib.ListN.{length, drop};
-ghost use Rattle.limits.specs.Limits.{rowCount};
-ghost use Rattle.model.specs.Calls.{named, sharing};
+ghost use Rattle.limits.specs.Limits.{lastDay, rowCount};
+ghost use Rattle.model.specs.Calls.{named, sharing, endsAfter};
 ghost use Rattle.model.specs.Ledger.{comesAfter};
 ghost use Rattle.model.specs.Places.{placeOf, firstPasses, reaches};
 ghost use Rattle.layout.specs.Offsets.{ledgerLength};
 ghost use Rattle.layout.specs.Present.{facts, rowAt, Searched};
+ghost use Rattle.ledger.specs.Answered.{viewOf};
 
 // Whether a bill has that contract and first day.
 fn is_named(contract: u32, first: u32, bill: Bill) -> bool
@@ -32,6 +34,16 @@ fn is_sharing(contract: u32, first: u32, last: u32, bill: Bill) -> bool
             return first <= bill.last;
         }
         return false;
+    }
+    false
+}
+
+// Whether a bill of that contract ends after the day.
+fn is_ending_after(contract: u32, day: u32, bill: Bill) -> bool
+    ensures { λ r. ⌜ r ≡ endsAfter contract day bill ⌝ }
+{
+    if bill.contract == contract {
+        return day < bill.last;
     }
     false
 }
@@ -121,6 +133,20 @@ pub fn row_shares_day(b: &[u8], rows: usize, i: usize, contract: u32, first: u32
     let row = row_at(b, i);
     let bill = row.bill;
     is_sharing(contract, first, last, bill)
+}
+
+// Whether a held row of the contract ends after the day: of the rows that reach the next day the first does, or none.
+pub fn ends_after(b: &[u8], rows: usize, contract: u32, day: u32) -> bool
+    requires { ⌜ Searched (now b) rows × (day ≤ lastDay) ⌝ }
+    ensures { λ r. ⌜ r ≡ ltb 0 (viewOf (now (b .entry)) .held (endsAfter contract day)) ⌝ }
+{
+    let place = first_reaching(b, rows, contract, day + 1);
+    if rows <= place {
+        return false;
+    }
+    let row = row_at(b, place);
+    let bill = row.bill;
+    is_ending_after(contract, day, bill)
 }
 
 // The place of a new row: the first held row that sorts after it, or the end of the held rows.

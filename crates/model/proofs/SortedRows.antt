@@ -17,7 +17,7 @@ use Rattle.basics.proofs.Lists.{all-map, all-both, total-all, total-zero}
 use Rattle.basics.proofs.FirstMapped.{firstMapped, first-rest}
 use Rattle.amounts.specs.declared.Bill.{Bill}
 use Rattle.model.specs.declared.Row.{Row}
-use Rattle.model.specs.Calls.{named, sharing}
+use Rattle.model.specs.Calls.{named, sharing, endsAfter}
 use Rattle.model.specs.Places.{placeOf, firstPasses, reaches}
 use Rattle.model.specs.WellFormed.{before, Apart}
 use Rattle.model.proofs.Places.{place-le, count-at}
@@ -230,6 +230,29 @@ module _ (c first : ℕ) where
         (λ r.
         let f : firstPasses (named c first) (drop (placeOf reaching xs) xs) ≡ true = rw r at e in
         rw (r, unreached reaching (sharing c first last) (sharing-reached last) x (s .0) r) (ap (ltb 0) (zero-add (count sharesOther xs)) ∙ others-share xs (s .1) (a .1) f))
+
+-- ---- a row of a contract that ends after a day
+
+module _ (c day : ℕ) where
+  ended-reached : FirstReached (reaches c (day + 1)) (endsAfter c day)
+  unfolding endsAfter
+  ended-reached = record {
+    reached = λ x s e.
+        let own : x .bill .contract ≡ c = eq-yes _ _ (and-left (eqb (x .bill .contract) c) _ e) in
+        let ends : day < x .bill .last = lt-yes _ _ (and-right (eqb (x .bill .contract) c) _ e) in
+        reach-own c (day + 1) (x .bill) (sym own) (omega arith);
+    past = λ x y s t h r n. either (eqb (y .bill .contract) c)
+        (λ e.
+        let own : y .bill .contract ≡ c = eq-yes _ _ e in
+        reach-cases c (day + 1) (x .bill) r
+        (λ l. let z : ⊥ = omega (arith, contracts-ascend x y t h) in absurd z)
+        (λ o l. let z : ⊥ = omega (arith, lt-no day (x .bill .last) (and-no (eqb (x .bill .contract) c) _ n (yes-eq _ _ (sym o)))) in absurd z))
+        (λ e. rw e);
+  }
+
+  -- there is one just where the first that reaches the next day is one
+  pub ends-at : (xs : List Row) → All Span xs → Apart xs → ltb 0 (count (λ x. endsAfter c day (x .bill)) xs) ≡ firstPasses (endsAfter c day) (drop (placeOf (reaches c (day + 1)) xs) xs)
+  ends-at = any-found (reaches c (day + 1)) (endsAfter c day) ended-reached
 
 -- ---- the rows of a contract
 

@@ -1,10 +1,27 @@
-// The numbers that stand for a fuel, a kind with its days, a certificate and an amendment; fixed, flexible and monthly kinds.
+// The numbers that stand for a fuel, a kind with its days, a certificate, an amendment and a contract; fixed, flexible and monthly kinds.
 use rates::Amendment;
 use rates::Certificate;
+use rates::Contract;
 use rates::Fuel;
 use rates::Kind;
 ghost use mathlib.Core.Path.{_≡_};
+ghost use Rattle.model.specs.ContractNumbers.{contractOfNumbers};
+ghost use Rattle.rules.specs.ContractListed.{listed};
 ghost use Rattle.model.specs.Codes.{fuelOf, fuelCode, kindOf, kindCode, priceFixDay, entryDay, isFixed, isFlexible, isMonthly, certificateOf, classCode, effectiveDay, amendmentOf, amendmentFlag, originalEnd, amendedPriceFixDay, amendedEntryDay, isAmended};
+
+// The numbers that stand for a contract, in the papers' order.
+pub struct ContractNumbers {
+    pub fuel: u32,
+    pub kind: u32,
+    pub price_fix_day: u32,
+    pub entry_day: u32,
+    pub class: u32,
+    pub effective_day: u32,
+    pub amendment_flag: u32,
+    pub original_end: u32,
+    pub amended_price_fix_day: u32,
+    pub amended_entry_day: u32,
+}
 
 pub fn fuel_of(code: u32) -> Fuel
     ensures { λ r. ⌜ r ≡ fuelOf code ⌝ }
@@ -230,5 +247,22 @@ pub fn is_amended(amendment: Amendment) -> bool
             price_fix_day: _,
             entry_day: _,
         } => true,
+    }
+}
+
+// The contract that numbers stand for.
+pub fn contract_of(numbers: ContractNumbers) -> Contract
+    ensures { λ r. ⌜ r ≡ contractOfNumbers (listed numbers) ⌝ }
+{
+    Contract {
+        fuel: fuel_of(numbers.fuel),
+        kind: kind_of(numbers.kind, numbers.price_fix_day, numbers.entry_day),
+        certificate: certificate_of(numbers.class, numbers.effective_day),
+        amendment: amendment_of(
+            numbers.amendment_flag,
+            numbers.original_end,
+            numbers.amended_price_fix_day,
+            numbers.amended_entry_day,
+        ),
     }
 }

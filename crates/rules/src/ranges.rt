@@ -1,6 +1,7 @@
 // The ranges of document 01 and of papers 1, 2 and 5: the tests of what a call gives, and of what a well-formed ledger holds.
 use crate::book::no_price;
 use crate::codes;
+use crate::codes::ContractNumbers;
 use amounts::Bill;
 use limits::FIRST_QHS_DAY;
 use limits::FIRST_SCHEME_DAY;
@@ -14,7 +15,7 @@ use rates::Kind;
 use rates::crosses_end;
 ghost use mathlib.Core.Path.{_≡_};
 ghost use Rattle.model.specs.PresentRules.{badKind, badClass, badDays, badEffective, badAmendmentDays, badAmendment, notAmendable, badSpan, badMonths, badAmounts, badShares, contractRanges, billOk};
-ghost use mathlib.Core.List.{[], _∷_};
+ghost use Rattle.rules.specs.ContractListed.{listed};
 
 // A fuel or kind code has no meaning, or kind 3 is given outside its place.
 pub fn bad_kind(territory: u32, fuel: u32, kind: u32) -> bool
@@ -186,23 +187,9 @@ fn bad_amendment(
     true
 }
 
-// The numbers of a contract's slot.
-pub struct ContractNumbers {
-    pub fuel: u32,
-    pub kind: u32,
-    pub price_fix_day: u32,
-    pub entry_day: u32,
-    pub class: u32,
-    pub effective_day: u32,
-    pub amendment_flag: u32,
-    pub original_end: u32,
-    pub amended_price_fix_day: u32,
-    pub amended_entry_day: u32,
-}
-
 // The numbers of an open contract keep the ranges.
 pub fn contract_ranges(territory: u32, numbers: ContractNumbers) -> bool
-    ensures { λ r. ⌜ r ≡ contractRanges territory (numbers .fuel ∷ numbers .kind ∷ numbers .«price_fix_day» ∷ numbers .«entry_day» ∷ numbers .class ∷ numbers .«effective_day» ∷ numbers .«amendment_flag» ∷ numbers .«original_end» ∷ numbers .«amended_price_fix_day» ∷ numbers .«amended_entry_day» ∷ []) ⌝ }
+    ensures { λ r. ⌜ r ≡ contractRanges territory (listed numbers) ⌝ }
 {
     if bad_kind(territory, numbers.fuel, numbers.kind) {
         return false;

@@ -28,4 +28,6 @@ requested-bill-spec =
     (λ c κs. search needs)
     (λ c. requested-refused _ _ _ _ (search request-refusals depth 20) (λ z. omega arith))
     (λ c κs. search needs)
+    (λ c. requested-refused _ _ _ _ (search request-refusals depth 20) (λ z. omega arith))
+    (λ c κs. search needs)
     (λ c. requested-bill _ _ _ _ _ (search request-refusals depth 20) (search contract-found) (search needs)))

@@ -10,7 +10,7 @@ returns : tie.Need-returns
 unfolding certify
 returns c =
     let contract = c .before .args .contract in
-    ap (λ (k : Certificate). record { fuel = contract .fuel; kind = contract .kind; certificate = k }) (c .certificate-of .ensures)
+    ap (λ (k : Certificate). record { fuel = contract .fuel; kind = contract .kind; certificate = k; amendment = contract .amendment }) (c .certificate-of .ensures)
 
 pub certify-spec : {M : Type 1} → statement M
 certify-spec = tie.close (tie.spec (λ c κs. search needs) returns)

@@ -6,10 +6,10 @@ use Rattle.contract_calls.proofs.rerating.rerate_rows.Statement.{statem
 use Rattle.contract_calls.proofs.rerating.rerate_rows.Tie as tie
 
 abbrev Inv-loop : tie.InvT-loop
-Inv-loop b₀ rows contract terms i₀ end old₀ new₀ changed₀ b i old new changed = Passed b₀ contract terms i b old new changed
+Inv-loop b₀ rows contract certified i₀ end old₀ new₀ changed₀ b i old new changed = Passed b₀ contract certified i b old new changed
 
 abbrev μ-loop : tie.MeasureT-loop
-μ-loop b₀ rows contract terms i₀ end old₀ new₀ changed₀ b i old new changed = end - i
+μ-loop b₀ rows contract certified i₀ end old₀ new₀ changed₀ b i old new changed = end - i
 
 loop-holds : tie.Need-loop-holds Inv-loop μ-loop
 loop-holds c = search none-passed

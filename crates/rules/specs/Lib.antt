@@ -1,0 +1,2 @@
+-- The numbers of a contract as the code holds them.
+pub mod ContractListed
