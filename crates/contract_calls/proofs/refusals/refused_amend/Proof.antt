@@ -15,7 +15,6 @@ refused-amend-spec =
     (tie.spec
     (λ c κs. search formed-length)
     (λ c. search (refusals, open-refused, open-passed))
-    (λ c. search needs)
     (λ c κs. search (formed-length, contract-low, contract-open))
     (λ c κs. search needs)
     (λ c. search (refusals, open-refused, open-passed, amendable-found))
