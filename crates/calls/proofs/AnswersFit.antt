@@ -5,6 +5,7 @@ use mathlib.Core.Bool.{Bool, true, false, cond}
 use mathlib.Core.List.{List}
 use Prim.Native.Nat.{ℕ, zero, suc}
 use native.Mathlib.Omega.{arith}
+use Rattle.rates.specs.TermsTaken.{termsFor}
 use Rattle.amounts.proofs.AmountBounds.{rate-low, amount-low}
 use Rattle.model.specs.declared.Answer.{Answer}
 use Rattle.model.specs.declared.Answer.the-variants.{Refused}
@@ -36,7 +37,8 @@ module _ (l : Ledger) (f : WellFormed rules l) where
       let k = contractAt (l .contracts) (q .contract) in
       let b = requestedBill (l .contracts) q book in
       let rateable = bill-ranges k b (t .ranges (f .contracts (q .contract) (t .isOpened))) .rateable in
-      (omega (arith, rate-low k b (rateable .supply)), omega (arith, amount-low k b rateable))
+      let terms = termsFor k (b .first) in
+      (omega (arith, rate-low terms b (rateable .supply)), omega (arith, amount-low terms b rateable))
 
   accepted-fits : (c : CallWithBook) → refusal rules (view l) c ≡ 0 → AnswerFits (accept rules l c .answers)
   unfolding accept
@@ -48,6 +50,7 @@ module _ (l : Ledger) (f : WellFormed rules l) where
   accepted-fits (Call.Claim with book) e = tt
   accepted-fits (Call.Report c with book) e = (omega (arith, kwh-low l f (ofContract c)), omega (arith, amounts-low f (present .rules) (ofContract c)))
   accepted-fits (Call.Total with book) e = omega (arith, due-low f (present .rules))
+  accepted-fits (Call.Amend c end fix entry with book) e = tt
 
   -- ---- any call
 

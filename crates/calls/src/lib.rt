@@ -7,6 +7,7 @@ use bill_calls::rebill;
 use claim_calls::checked_report;
 use claim_calls::checked_total;
 use claim_calls::claim;
+use contract_calls::amend;
 use contract_calls::cert;
 use contract_calls::open_contract;
 use layout::Checked;
@@ -41,6 +42,19 @@ fn perform_checked(ledger: &mut [u8], rows: usize, due: u64, book: &[u32], call:
         Call::Claim => claim(ledger, rows, due),
         Call::Report { contract } => checked_report(ledger, rows, contract),
         Call::Total => checked_total(ledger, rows, due),
+        Call::Amend {
+            contract,
+            original_end,
+            price_fix_day,
+            entry_day,
+        } => amend(
+            ledger,
+            rows,
+            contract,
+            original_end,
+            price_fix_day,
+            entry_day,
+        ),
     }
 }
 

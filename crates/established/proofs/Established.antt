@@ -4,19 +4,20 @@ use Rattle.calendar.proofs.TableOfDates.{table-of-dates}
 use Rattle.calendar.proofs.DayAndDate.{day-and-date-inverse}
 use Rattle.rates.proofs.TwelveRates.{twelve-rates, baseline-not-given-to-qhs}
 use Rattle.rates.proofs.RateExamples.{caps-attained, discounts-begin, classes-applied}
+use Rattle.rates.proofs.TermsTaken.{terms-taken}
 use Rattle.amounts.proofs.AmountLaws.{shares-rated, stretches-rated, without-change-inside, amounts-bounded}
 use Rattle.amounts.proofs.AmountExamples.{amount-examples}
 use Rattle.model.proofs.BookEntries.{entries-found}
 use Rattle.model.proofs.BoundaryExamples.{at-the-boundaries}
 use Rattle.model.proofs.RangeExamples.{ranges-kept}
-use Rattle.model.proofs.Run.{landlord-example, certificate-inside-example}
+use Rattle.model.proofs.Run.{landlord-example, certificate-inside-example, blend-and-extend-example}
 use Rattle.model.proofs.PriceOfEveryDay.{price-of-every-day}
 use Rattle.model.proofs.AcceptedCalls.{accepted-where-none-fits}
 use Rattle.model.proofs.NumberFifteen.{number-fifteen}
 use Rattle.model.proofs.QuarterExample.{quarter-example}
 use Rattle.model.proofs.StoredEarlier.{stored-earlier}
 use Rattle.model.proofs.Postings.{floor-leaves-rest}
-use Rattle.layout.proofs.Theorems.{packed-size, fresh-ledger, round-trips, claims-kept, amounts-kept, demand-three, stored-ledgers-balance, packed-histories-hold-their-facts, packed-answers-from-the-sheet, packed-same-as-postings, number-two-first, number-two-meets-no-call}
+use Rattle.layout.proofs.Theorems.{packed-size, fresh-ledger, round-trips, claims-kept, amounts-kept, demand-three, stored-ledgers-balance, packed-histories-hold-their-facts, packed-answers-from-the-sheet, packed-same-as-postings, amend-alters-no-row, number-two-first, number-two-meets-no-call}
 use Rattle.layout.proofs.RowsInOrder.{rows-in-order}
 use Rattle.layout.proofs.LayoutExample.{layout-example}
 use Rattle.contract_calls.proofs.StartAnswers.{start-tests}
@@ -42,6 +43,7 @@ all-established = record {
   caps-attained = caps-attained;
   discounts-begin = discounts-begin;
   classes-applied = classes-applied;
+  terms-taken = terms-taken;
   shares-rated = shares-rated;
   stretches-rated = stretches-rated;
   without-change-inside = without-change-inside;
@@ -49,6 +51,7 @@ all-established = record {
   amount-examples = amount-examples;
   landlord-example = landlord-example;
   certificate-inside-example = certificate-inside-example;
+  blend-and-extend-example = blend-and-extend-example;
   entries-found = entries-found;
   price-of-every-day = price-of-every-day;
   field-laws = field-laws;
@@ -68,6 +71,7 @@ all-established = record {
   stored-ledgers-balance = stored-ledgers-balance;
   packed-answers-from-the-sheet = packed-answers-from-the-sheet;
   number-two-meets-no-call = number-two-meets-no-call;
+  amend-alters-no-row = amend-alters-no-row;
   packed-same-as-postings = packed-same-as-postings;
   floor-leaves-rest = floor-leaves-rest;
   numbers-read-back = numbers-read-back;

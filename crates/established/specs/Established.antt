@@ -4,6 +4,7 @@ use Rattle.fields.specs.FieldLaws.{FieldLaws, FieldExamples}
 use Rattle.calendar.specs.TableOfDates.{TableOfDates, DayAndDateInverse}
 use Rattle.rates.specs.TwelveRates.{TwelveRates, BaselineNotGivenToQhs}
 use Rattle.rates.specs.RateExamples.{CapsAttained, DiscountsBegin, ClassesApplied}
+use Rattle.rates.specs.TermsTaken.{TermsTaken}
 use Rattle.amounts.specs.AmountLaws.{SharesRated, StretchesRated, WithoutChangeInside, AmountsBounded}
 use Rattle.amounts.specs.AmountExamples.{AmountExamples}
 use Rattle.model.specs.BookEntries.{EntriesFound}
@@ -11,6 +12,7 @@ use Rattle.model.specs.BoundaryExamples.{AtTheBoundaries}
 use Rattle.model.specs.RangeExamples.{RangesKept}
 use Rattle.model.specs.LandlordExample.{LandlordExample}
 use Rattle.model.specs.CertificateInsideExample.{CertificateInsideExample}
+use Rattle.model.specs.BlendAndExtendExample.{BlendAndExtendExample}
 use Rattle.model.specs.PriceOfEveryDay.{PriceOfEveryDay}
 use Rattle.model.specs.AcceptedCalls.{AcceptedWhereNoneFits}
 use Rattle.model.specs.NumberFifteen.{NumberFifteen}
@@ -18,7 +20,7 @@ use Rattle.model.specs.QuarterExample.{QuarterExample}
 use Rattle.model.specs.StoredEarlier.{StoredEarlier}
 use Rattle.model.specs.Postings.{FloorLeavesRest}
 use Rattle.layout.specs.RowsInOrder.{RowsInOrder}
-use Rattle.layout.specs.Theorems.{PackedSize, FreshLedger, RoundTrips, ClaimsKept, AmountsKept, DemandThree, StoredLedgersBalance, PackedHistoriesHoldTheirFacts, PackedAnswersFromTheSheet, PackedSameAsPostings, NumberTwoFirst, NumberTwoMeetsNoCall}
+use Rattle.layout.specs.Theorems.{PackedSize, FreshLedger, RoundTrips, ClaimsKept, AmountsKept, DemandThree, StoredLedgersBalance, PackedHistoriesHoldTheirFacts, PackedAnswersFromTheSheet, PackedSameAsPostings, AmendAltersNoRow, NumberTwoFirst, NumberTwoMeetsNoCall}
 use Rattle.layout.specs.LayoutExample.{LayoutExample}
 use Rattle.contract_calls.specs.Start.{StartTests}
 use Rattle.text.specs.Numbers.{NumbersReadBack}
@@ -43,6 +45,7 @@ pub record Established : Type 0 where
   pub caps-attained : CapsAttained
   pub discounts-begin : DiscountsBegin
   pub classes-applied : ClassesApplied
+  pub terms-taken : TermsTaken
   pub shares-rated : SharesRated
   pub stretches-rated : StretchesRated
   pub without-change-inside : WithoutChangeInside
@@ -50,6 +53,7 @@ pub record Established : Type 0 where
   pub amount-examples : AmountExamples
   pub landlord-example : LandlordExample
   pub certificate-inside-example : CertificateInsideExample
+  pub blend-and-extend-example : BlendAndExtendExample
   pub entries-found : EntriesFound
   pub price-of-every-day : PriceOfEveryDay
   -- demand 2: the packed ledger, both ways
@@ -71,6 +75,7 @@ pub record Established : Type 0 where
   pub stored-ledgers-balance : StoredLedgersBalance
   pub packed-answers-from-the-sheet : PackedAnswersFromTheSheet
   pub number-two-meets-no-call : NumberTwoMeetsNoCall
+  pub amend-alters-no-row : AmendAltersNoRow
   pub packed-same-as-postings : PackedSameAsPostings
   pub floor-leaves-rest : FloorLeavesRest
   -- the program

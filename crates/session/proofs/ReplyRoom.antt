@@ -63,6 +63,7 @@ call-short l (Call.Cancel c first with book) = (refl, omega arith)
 call-short l (Call.Claim with book) = (refl, omega arith)
 call-short l (Call.Report c with book) = (refl, omega arith)
 call-short l (Call.Total with book) = (refl, omega arith)
+call-short l (Call.Amend c end fix entry with book) = (refl, omega arith)
 
 answer-short : (l : Ledger) (c : CallWithBook) → Short (replyOf (answer rules l c))
 unfolding answer outcome refusal

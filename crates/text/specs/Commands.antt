@@ -37,6 +37,7 @@ forms =
     form "claim" 0 (Command.OnLedger Call.Claim) ∷
     form "report" 1 (λ c. Command.OnLedger (Call.Report c)) ∷
     form "total" 0 (Command.OnLedger Call.Total) ∷
+    form "amend" 4 (λ c end fix entry. Command.OnLedger (Call.Amend c end fix entry)) ∷
     form "day" 3 Command.Day ∷
     form "date" 1 Command.Date ∷
     form "price" 2 Command.Price ∷

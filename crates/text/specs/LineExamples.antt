@@ -29,6 +29,7 @@ readable =
     ∷ ("claim" reads Command.OnLedger Call.Claim)
     ∷ ("report 10" reads Command.OnLedger (Call.Report 10))
     ∷ ("total" reads Command.OnLedger Call.Total)
+    ∷ ("amend 10 11 12 13" reads Command.OnLedger (Call.Amend 10 11 12 13))
     ∷ ("day 2024 2 29" reads Command.Day 2024 2 29)
     ∷ ("date 0" reads Command.Date 0)
     ∷ ("date 4294967295" reads Command.Date 4294967295)
@@ -40,7 +41,7 @@ readable =
 unfoldable pub unreadable : List String
 unreadable =
     "" ∷ "bills" ∷ "Total" ∷ "report" ∷ "total 1" ∷ "cancel 10 11 12" ∷ "bill 10 11 12 13 14 15" ∷ "bill 10 11 12 13 14 15 16"
-    ∷ "bill 10 11 12 13 14 15 16 17 18" ∷ "rebill 10 11 12 13 14 15 16" ∷ "date  1" ∷ " date 1" ∷ "date 1 " ∷ "date 01" ∷ "date 10000000000"
+    ∷ "bill 10 11 12 13 14 15 16 17 18" ∷ "rebill 10 11 12 13 14 15 16" ∷ "amend 10 11 12" ∷ "amend 10 11 12 13 14" ∷ "date  1" ∷ " date 1" ∷ "date 1 " ∷ "date 01" ∷ "date 10000000000"
     ∷ "date 4294967296" ∷ "date -1" ∷ "date +1" ∷ "date 1x" ∷ []
 
 pub record LinesRead : Type 0 where

@@ -37,10 +37,11 @@ pub enum Parsed {
 }
 
 // The table of names: the calls' names with single spaces between. A call's place in it is counted from 0.
-const NAMES: [u8; 68] = *b"start open bill rebill cert cancel claim report total day date price";
+const NAMES: [u8; 74] =
+    *b"start open bill rebill cert cancel claim report total amend day date price";
 
 // How many numbers the call at each place takes.
-const COUNTS: [usize; 12] = [1, 5, 8, 8, 3, 2, 0, 1, 0, 3, 1, 2];
+const COUNTS: [usize; 13] = [1, 5, 8, 8, 3, 2, 0, 1, 0, 4, 3, 1, 2];
 
 // No call takes more numbers.
 const MOST_NUMBERS: usize = 8;
@@ -157,13 +158,19 @@ fn command_at(place: usize, n: [u32; MOST_NUMBERS]) -> Command
         6 => Command::OnLedger(Call::Claim),
         7 => Command::OnLedger(Call::Report { contract: a }),
         8 => Command::OnLedger(Call::Total),
-        9 => Command::Day {
+        9 => Command::OnLedger(Call::Amend {
+            contract: a,
+            original_end: b,
+            price_fix_day: c,
+            entry_day: d,
+        }),
+        10 => Command::Day {
             year: a,
             month: b,
             day: c,
         },
-        10 => Command::Date { day: a },
-        11 => Command::Price { index: a, value: b },
+        11 => Command::Date { day: a },
+        12 => Command::Price { index: a, value: b },
         _ => Command::Unreadable,
     }
 }

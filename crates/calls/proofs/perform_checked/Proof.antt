@@ -28,10 +28,15 @@ returns-7 c = search passed-on-any
 returns-8 : tie.Need-returns-8
 returns-8 c = search passed-on-any
 
+returns-9 : tie.Need-returns-9
+returns-9 c = search passed-on-any
+
 pub perform-checked-spec : {M : Type 1} → statement M
 perform-checked-spec =
     tie.close
     (tie.spec
+    (λ c. search needs)
+    (λ c κs. search needs)
     (λ c. search needs)
     (λ c κs. search needs)
     (λ c. search needs)
@@ -63,4 +68,6 @@ perform-checked-spec =
     (λ c. search needs)
     returns-7
     (λ c. search needs)
-    returns-8)
+    returns-8
+    (λ c. search needs)
+    returns-9)

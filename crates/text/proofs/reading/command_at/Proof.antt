@@ -19,7 +19,7 @@ unfolding NoneOf
 past zero place h = zero-le
 past (suc n) place h = lt-of-le-ne (past n place (h .0)) (λ e. h .1 (sym e))
 
-none : tie.Need-returns-13
+none : tie.Need-returns-14
 unfolding NoneOf
 none c =
     let a = c .before .args in
@@ -48,4 +48,5 @@ command-at-spec =
     (λ c. rw (c .match .keys10))
     (λ c. rw (c .match .keys11))
     (λ c. rw (c .match .keys12))
+    (λ c. rw (c .match .keys13))
     none)
