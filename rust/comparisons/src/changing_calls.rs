@@ -277,6 +277,7 @@ mod tests {
                     fuel,
                     kind: Kind::Flexible,
                     certificate,
+                    amendment: None,
                 };
                 let bill = Bill {
                     first_day,

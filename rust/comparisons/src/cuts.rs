@@ -91,7 +91,7 @@ fn certificate_cut(contract: &Contract, bill: &Bill) -> Option<Cut> {
 /// Day 792, for a bill that is QHS on all days or has a QHS share, unless the old minimum is kept.
 fn minimum_cut(contract: &Contract, bill: &Bill) -> Option<Cut> {
     let day = NEW_QHS_MINIMUM_DAY;
-    if !new_qhs_minimum_applies(contract.kind, day) {
+    if !new_qhs_minimum_applies(contract, day) {
         return None;
     }
     let class = class_of_bill(contract.certificate, bill.first_day);
@@ -150,6 +150,7 @@ mod tests {
             fuel: Fuel::Electricity,
             kind: Kind::Flexible,
             certificate,
+            amendment: None,
         }
     }
 

@@ -497,6 +497,7 @@ mod tests {
             fuel: Fuel::Electricity,
             kind,
             certificate: Certificate::None,
+            amendment: None,
         });
         let mut random = Random::new(1, "spans", 0);
         let mut times = BTreeMap::new();

@@ -86,7 +86,9 @@ fn concerns(call: &Call, row: &Row) -> bool {
         Call::Bill(numbers) => numbers.contract == row.contract,
         Call::Rebill(numbers) => (numbers.contract, numbers.first) == key(row),
         Call::Cancel { contract, first } => (contract, first) == key(row),
-        Call::Start { .. } | Call::Open { .. } | Call::Claim | Call::Total => false,
+        Call::Start { .. } | Call::Open { .. } | Call::Claim | Call::Total | Call::Amend { .. } => {
+            false
+        }
     }
 }
 
@@ -139,6 +141,7 @@ mod tests {
             fuel: Fuel::Electricity,
             kind,
             certificate: Certificate::None,
+            amendment: None,
         };
         facts.contracts[5] = Some(contract(Kind::Variable));
         facts.contracts[6] = Some(contract(Kind::Flexible));
