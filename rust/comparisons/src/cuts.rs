@@ -46,6 +46,12 @@ struct Cut {
 /// day has a kWh.
 pub fn edges_shown(contract: &Contract, bill: &Bill) -> Vec<(&'static str, &'static str)> {
     let days = bill.last_day - bill.first_day + 1;
+    // beside the bill too, its own price-fix and entry day count, and not those of the day
+    let contract = &Contract {
+        kind: contract.kind_of_bill(bill.first_day),
+        amendment: None,
+        ..*contract
+    };
     let cuts = [certificate_cut(contract, bill), minimum_cut(contract, bill)];
     let shown = cuts.into_iter().flatten().filter(|cut| {
         let (before, after) = cut.rates;
