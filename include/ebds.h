@@ -2,7 +2,7 @@
  * The calls of the discount ledger of the Energy Bills Discount Scheme, for C and C++.
  *
  * The calls, their numbers, answers and refusals are those of document 01, "The discount ledger of
- * the Energy Bills Discount Scheme", with papers 1 to 4 of document 02, "Later changes to the
+ * the Energy Bills Discount Scheme", with papers 1 to 5 of document 02, "Later changes to the
  * base". The library is target/staticlib/libebds_c.a, which the command `rt staticlib ebds_c`
  * proves and builds. It keeps nothing between calls and allocates nothing.
  *
@@ -15,10 +15,9 @@
  * The ledger
  *   A packed ledger is EBDS_LEDGER_LENGTH bytes. A call takes bytes of any length and any contents
  *   and gives 2 where they aren't a well-formed ledger. It may be copied, stored and sent as bytes.
- *   It may hold rows of variable and index contracts across two months or more, from before number
- *   15 came: they stand with the price that they hold, and take certificates and cancellation. A
- *   ledger stored before bills were rated by day is well formed only where its amounts are those by
- *   day.
+ *   A ledger of an earlier layout has another length and gives 2. A ledger may hold rows of variable
+ *   and index contracts across two months or more: they stand with the price that they hold, and
+ *   take certificates and cancellation.
  *
  * The price book
  *   EBDS_BOOK_LENGTH prices in mils (thousandths of a penny per kWh), 0 meaning not published. Fixed
@@ -36,9 +35,13 @@
  *    3  the book isn't EBDS_BOOK_LENGTH entries or has one above 999,999
  *    4  the contract number is above 63
  *    5  the contract is open already (ebds_open), or isn't open (every other call that names one)
+ *   16  the contract isn't fixed or is amended already (ebds_amend)
  *    6  a territory, fuel, kind or class code has no meaning, or kind 3 is given outside its place
  *    7  a day is wrong
  *   15  a variable or index span touches two scheme months (ebds_bill, ebds_rebill)
+ *   17  the span starts on or before the original end of an amended contract and ends after it
+ *       (ebds_bill, ebds_rebill)
+ *   18  a row of the contract ends after the original end given (ebds_amend)
  *    8  kWh is above 100,000,000, S or WAP above 999,999, or a WAP isn't 0 where it must be
  *   14  the two shares exceed kWh (ebds_bill, ebds_rebill)
  *    9  no row of that contract has that first day (ebds_rebill, ebds_cancel)
@@ -72,6 +75,13 @@
  *   each share is rated by its class and the rest of the kWh as baseline, whatever the contract's
  *   certificate says, each spread over the days by itself; the amount is the sum over the three, and
  *   the rate answered is the baseline one. If both are 0, the certificate applies.
+ *
+ * Amendments
+ *   A fixed contract that is repriced or extended before the end of its original term has an
+ *   amendment: the original end day, a price-fix day and an entry day. Bills that start on or before
+ *   the original end take the contract's original price-fix and entry days, later ones the
+ *   amendment's, for R and for the QHS minimum; so do the rows that a certificate re-rates. The
+ *   supply price is as billed.
  */
 #ifndef EBDS_H
 #define EBDS_H
@@ -80,7 +90,7 @@
 #include <stdint.h>
 
 /* The length of a packed ledger in bytes. */
-#define EBDS_LEDGER_LENGTH 25928
+#define EBDS_LEDGER_LENGTH 26184
 
 /* How many prices a book has. */
 #define EBDS_BOOK_LENGTH 1740
@@ -93,16 +103,17 @@ extern "C" {
 uint32_t ebds_start(uint8_t *ledger, size_t ledger_length, uint32_t territory, int64_t *answer);
 
 /*
- * open: a contract without a certificate. The price-fix day and the day of entry are 0 to 851 for a
- * fixed contract, and 0 for any other. Answers no numbers.
+ * open: an unamended contract without a certificate. The price-fix day and the day of entry are 0 to
+ * 851 for a fixed contract, and 0 for any other. Answers no numbers.
  */
 uint32_t ebds_open(uint8_t *ledger, size_t ledger_length, uint32_t contract, uint32_t fuel,
                    uint32_t kind, uint32_t price_fix_day, uint32_t entry_day, int64_t *answer);
 
 /*
  * bill: adds a row, from the first to the last day, with 486 <= first <= last <= 851, both in one
- * scheme month where the contract is variable or index. The WAP is R of a flexible contract, and 0
- * for any other, whose R is the book's. Answers R, rate, amount.
+ * scheme month where the contract is variable or index, and on one side of the original end where it
+ * is amended. The WAP is R of a flexible contract, and 0 for any other, whose R is the book's.
+ * Answers R, rate, amount.
  */
 uint32_t ebds_bill(uint8_t *ledger, size_t ledger_length, const uint32_t *book, size_t book_length,
                    uint32_t contract, uint32_t first, uint32_t last, uint32_t kwh, uint32_t supply,
@@ -145,6 +156,15 @@ uint32_t ebds_report(const uint8_t *ledger, size_t ledger_length, uint32_t contr
  * no byte.
  */
 uint32_t ebds_total(const uint8_t *ledger, size_t ledger_length, int64_t *answer);
+
+/*
+ * amend: gives a fixed contract its amendment, one at most. The original end day is 486 to 851, and
+ * no row of the contract ends after it; the amendment's price-fix and entry days are 0 to 851. It
+ * alters no row, and a certificate that comes later keeps it. Answers no numbers.
+ */
+uint32_t ebds_amend(uint8_t *ledger, size_t ledger_length, uint32_t contract,
+                    uint32_t original_end_day, uint32_t price_fix_day, uint32_t entry_day,
+                    int64_t *answer);
 
 /* day: answers the day number of a date, or gives 7 for one that isn't in the table. */
 uint32_t ebds_day(uint32_t year, uint32_t month, uint32_t day, int64_t *answer);

@@ -143,7 +143,7 @@ fn is_inside(day: u32, bill: &Bill) -> bool {
 
 /// Whether the new QHS minimum applies to the contract from day 792 on.
 fn takes_new_minimum(contract: &Contract) -> bool {
-    new_qhs_minimum_applies(contract.kind, NEW_QHS_MINIMUM_DAY)
+    new_qhs_minimum_applies(contract, NEW_QHS_MINIMUM_DAY)
 }
 
 /// Whether the amount is another than by the first day's rates and, where day 792 is inside,
@@ -175,7 +175,11 @@ fn with_other_minimum(contract: &Contract) -> Contract {
     } else {
         Kind::Flexible
     };
-    Contract { kind, ..*contract }
+    Contract {
+        kind,
+        amendment: None,
+        ..*contract
+    }
 }
 
 #[cfg(test)]
@@ -211,6 +215,7 @@ mod tests {
             fuel: Fuel::Electricity,
             kind,
             certificate,
+            amendment: None,
         }
     }
 

@@ -3,15 +3,15 @@
 //! without a QHS share, and certificates that begin inside them.
 
 use crate::generator::{
-    bill_numbers, cancel, cert, claim, contract_day, day_of_span, free_number, free_span, held_row,
-    open_contract, rebill, report, total, Profile,
+    amend, bill_numbers, cancel, cert, claim, contract_day, contract_of_number, day_of_span,
+    free_number, free_span, held_row, open_contract, rebill, report, total, Profile,
 };
 use crate::random::Random;
 use calculator::calls::{BillNumbers, Call};
 use calculator::codes::{QHS_FIRST_DAY, SCHEME_FIRST_DAY};
 use calculator::dates::LAST_DAY;
 use calculator::packed::{Facts, Row};
-use calculator::rates::{Contract, Fuel, Kind, NEW_QHS_MINIMUM_DAY};
+use calculator::rates::{Fuel, Kind, NEW_QHS_MINIMUM_DAY};
 
 /// Few contracts, whose bills are rated again and again.
 pub const CHANGING: &Profile = &[
@@ -25,6 +25,7 @@ pub const CHANGING: &Profile = &[
     (1, claim),
     (2, report),
     (1, total),
+    (1, amend),
 ];
 
 /// The last day of the old QHS minimum.
@@ -43,17 +44,27 @@ const OTHER_ROW_ONCE_IN: usize = 8;
 const OTHER_CONTRACT_ONCE_IN: usize = 8;
 
 /// An open of a contract that is mostly flexible or fixed, for others have no bill across day
-/// 792; half of the fixed ones are entered before that day.
+/// 792.
 fn open_by_minimum(random: &mut Random, facts: &Facts) -> Call {
     let kind = random.one_of(&[0, 0, 0, 1, 2, 2, 2, 2]);
+    open_of_kind(random, facts, kind)
+}
+
+/// A day of entry that is before day 792 as often as it isn't.
+pub fn entry_day_by_minimum(random: &mut Random) -> u32 {
     let entry_days = [
         random.within(0..=LAST_DAY_OF_OLD_MINIMUM),
         LAST_DAY_OF_OLD_MINIMUM,
         NEW_QHS_MINIMUM_DAY,
         random.within(NEW_QHS_MINIMUM_DAY..=LAST_DAY),
     ];
+    random.one_of(&entry_days)
+}
+
+/// An open of a contract of the kind.
+pub fn open_of_kind(random: &mut Random, facts: &Facts, kind: u32) -> Call {
     let (price_fix_day, entry_day) = match kind {
-        0 => (contract_day(random), random.one_of(&entry_days)),
+        0 => (contract_day(random), entry_day_by_minimum(random)),
         _ => (0, 0),
     };
     Call::Open {
@@ -122,11 +133,8 @@ fn contract_to_bill(random: &mut Random, facts: &Facts) -> u32 {
     let numbered = (0..).zip(&facts.contracts);
     let open = numbered.filter_map(|(number, contract)| contract.map(|_| number));
     let free: Vec<u32> = open.filter(|&number| !has_rows(number)).collect();
-    if free.is_empty() || random.once_in(OTHER_CONTRACT_ONCE_IN) {
-        open_contract(random, facts)
-    } else {
-        random.one_of(&free)
-    }
+    let one = random.mostly_one_of(&free, OTHER_CONTRACT_ONCE_IN);
+    one.unwrap_or_else(|| open_contract(random, facts))
 }
 
 fn rows_across_day_792(facts: &Facts) -> impl Iterator<Item = &Row> {
@@ -146,26 +154,18 @@ fn row_across_changes(
         .filter(|row| wanted(row))
         .copied()
         .collect();
-    if rows.is_empty() || random.once_in(OTHER_ROW_ONCE_IN) {
-        held_row(random, facts)
-    } else {
-        Some(random.one_of(&rows))
-    }
+    let one = random.mostly_one_of(&rows, OTHER_ROW_ONCE_IN);
+    one.or_else(|| held_row(random, facts))
 }
 
 /// The days on which the class or the QHS minimum of the contract's bills may change: day 792,
 /// twice as likely, and the effective day of its certificate, if it has one.
 fn days_of_changes(facts: &Facts, contract: u32) -> Vec<u32> {
-    let certificate = contract_of(facts, contract).map(|contract| contract.certificate);
+    let certificate = contract_of_number(facts, contract).map(|contract| contract.certificate);
     let effective_day = certificate.map(|certificate| certificate.numbers().1);
     let effective_day = effective_day.filter(|&day| day != 0);
     let days = [NEW_QHS_MINIMUM_DAY; 2].into_iter();
     days.chain(effective_day).collect()
-}
-
-/// The contract of the number, if it is open.
-fn contract_of(facts: &Facts, contract: u32) -> Option<Contract> {
-    *facts.contracts.get(contract as usize)?
 }
 
 /// A span of the scheme across one of the days or across two: some start with the first of them
@@ -183,14 +183,14 @@ fn span_across(random: &mut Random, days: &[u32]) -> (u32, u32) {
 
 /// The numbers of a bill, mostly at prices that show a change inside in the amount; then half of
 /// the bills have a QHS share and the others no shares.
-fn numbers_that_show_changes(
+pub fn numbers_that_show_changes(
     random: &mut Random,
     facts: &Facts,
     contract: u32,
     span: (u32, u32),
 ) -> BillNumbers {
     let numbers = bill_numbers(random, facts, contract, span);
-    let open = contract_of(facts, contract);
+    let open = contract_of_number(facts, contract);
     let Some(contract) = open.filter(|_| !random.once_in(OTHER_BILL_ONCE_IN)) else {
         return numbers;
     };
@@ -277,6 +277,7 @@ mod tests {
                     fuel,
                     kind: Kind::Flexible,
                     certificate,
+                    amendment: None,
                 };
                 let bill = Bill {
                     first_day,

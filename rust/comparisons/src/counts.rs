@@ -1,9 +1,12 @@
-//! What the comparisons met: sessions, calls, refusals, rows, bills with a change inside, searches
-//! among rows, stored, disordered and damaged ledgers, and differences.
+//! What the comparisons met: sessions, calls, refusals, rows, bills with a change inside, amended
+//! contracts, searches among rows, stored, disordered and damaged ledgers, and differences.
 
 use crate::changes_met::{ChangesMet, FewestChanges};
 use crate::sorts::Sorts;
-use crate::{disordered_ledgers, ledgers_stored_earlier, places_met, rows_across_months, rows_met};
+use crate::{
+    amendments_met, damaged_amendments, disordered_ledgers, ledgers_stored_earlier, places_met,
+    rows_across_months, rows_met,
+};
 use calculator::calls::Outcome;
 use calculator::refusals::LAST_REFUSAL;
 use std::collections::BTreeMap;
@@ -49,6 +52,8 @@ pub struct Counts {
     refused: BTreeMap<u32, u64>,
     /// The bills with a change inside.
     pub changes: ChangesMet,
+    /// The amendments, and the calls on amended contracts.
+    pub amendments: Sorts,
 }
 
 /// The damaged ledgers of one kind.
@@ -74,6 +79,8 @@ pub struct Findings {
     pub searches: Sorts,
     /// The ledgers whose rows are out of order or share a day.
     pub disordered_ledgers: Sorts,
+    /// The ledgers whose amendments are damaged.
+    pub damaged_amendments: Sorts,
     damages: BTreeMap<String, DamageCounts>,
     differences: u64,
 }
@@ -93,6 +100,7 @@ impl Counts {
             accepted: BTreeMap::new(),
             refused: BTreeMap::new(),
             changes: ChangesMet::new(fewest_changes),
+            amendments: Sorts::new(amendments_met::sorts(), FEWEST_MET),
         }
     }
 
@@ -118,15 +126,18 @@ impl Counts {
         for (title, counts) in self.changes.met() {
             println!("  {title}: {}", listed(counts));
         }
+        println!("  amendments: {}", listed(self.amendments.met()));
     }
 
     /// What must be met and was met too few times, and how often it was.
     fn met_too_few_times(&self) -> Vec<(String, u64)> {
         let calls = self.required().into_iter();
         let calls = calls.filter(|&(_, times)| times < FEWEST_MET);
-        let changes = self.changes.met_too_few_times().into_iter();
-        let changes = changes.map(|(what, times)| (format!("{}: {what}", self.side), times));
-        calls.chain(changes).collect()
+        let amendments = self.amendments.met_too_few_times();
+        let sorts = self.changes.met_too_few_times().into_iter();
+        let sorts = sorts.chain(amendments);
+        let sorts = sorts.map(|(what, times)| (format!("{}: {what}", self.side), times));
+        calls.chain(sorts).collect()
     }
 
     /// Each refusal and accepted call that must be met, and how often it was.
@@ -148,7 +159,7 @@ impl Findings {
     pub fn new() -> Findings {
         let library_calls = vec![
             "start", "open", "bill", "rebill", "cert", "cancel", "claim", "report", "total", "day",
-            "date",
+            "date", "amend",
         ];
         let program_calls = [library_calls.clone(), vec!["price"]].concat();
         // the program's own ledger and book never meet numbers 2 and 3
@@ -175,6 +186,7 @@ impl Findings {
             ),
             searches: Sorts::new(places_met::sorts(), FEWEST_MET),
             disordered_ledgers: Sorts::new(disordered_ledgers::sorts(), FEWEST_MET),
+            damaged_amendments: Sorts::new(damaged_amendments::sorts(), FEWEST_MET),
             damages: BTreeMap::new(),
             differences: 0,
         }
@@ -219,13 +231,14 @@ impl Findings {
     }
 
     /// What is counted by sort, under its title.
-    fn sorts(&self) -> [(&'static str, &Sorts); 5] {
+    fn sorts(&self) -> [(&'static str, &Sorts); 6] {
         [
             ("rows", &self.rows),
             ("rows across months", &self.rows_across_months),
             ("ledgers stored earlier", &self.ledgers_stored_earlier),
             ("searches", &self.searches),
             ("disordered ledgers", &self.disordered_ledgers),
+            ("damaged amendments", &self.damaged_amendments),
         ]
     }
 
@@ -261,12 +274,15 @@ mod tests {
     use std::mem::swap;
 
     /// What is counted by sort.
-    const SORTS: [fn(&mut Findings) -> &mut Sorts; 5] = [
+    const SORTS: [fn(&mut Findings) -> &mut Sorts; 8] = [
         |findings| &mut findings.rows,
         |findings| &mut findings.rows_across_months,
         |findings| &mut findings.ledgers_stored_earlier,
         |findings| &mut findings.searches,
         |findings| &mut findings.disordered_ledgers,
+        |findings| &mut findings.damaged_amendments,
+        |findings| &mut findings.program.amendments,
+        |findings| &mut findings.library.amendments,
     ];
 
     /// Everything that must be met, met often enough.

@@ -46,6 +46,12 @@ struct Cut {
 /// day has a kWh.
 pub fn edges_shown(contract: &Contract, bill: &Bill) -> Vec<(&'static str, &'static str)> {
     let days = bill.last_day - bill.first_day + 1;
+    // beside the bill too, its own price-fix and entry day count, and not those of the day
+    let contract = &Contract {
+        kind: contract.kind_of_bill(bill.first_day),
+        amendment: None,
+        ..*contract
+    };
     let cuts = [certificate_cut(contract, bill), minimum_cut(contract, bill)];
     let shown = cuts.into_iter().flatten().filter(|cut| {
         let (before, after) = cut.rates;
@@ -91,7 +97,7 @@ fn certificate_cut(contract: &Contract, bill: &Bill) -> Option<Cut> {
 /// Day 792, for a bill that is QHS on all days or has a QHS share, unless the old minimum is kept.
 fn minimum_cut(contract: &Contract, bill: &Bill) -> Option<Cut> {
     let day = NEW_QHS_MINIMUM_DAY;
-    if !new_qhs_minimum_applies(contract.kind, day) {
+    if !new_qhs_minimum_applies(contract, day) {
         return None;
     }
     let class = class_of_bill(contract.certificate, bill.first_day);
@@ -150,6 +156,7 @@ mod tests {
             fuel: Fuel::Electricity,
             kind: Kind::Flexible,
             certificate,
+            amendment: None,
         }
     }
 

@@ -21,9 +21,10 @@ pub struct Damage {
 /// damage.
 type Damaged = dyn Fn(&mut Random, &[u8], usize) -> Vec<u8>;
 
-/// The widths of the fields in document 01's order (section "The packed ledger").
+/// The widths of the fields in document 01's order (section "The packed ledger"), those of a
+/// contract with the flag and the days of document 02, paper 5.
 const HEADER_WIDTHS: [usize; 3] = [1, 16, 47];
-const CONTRACT_WIDTHS: [usize; 8] = [1, 1, 2, 10, 10, 2, 10, 4];
+const CONTRACT_WIDTHS: [usize; 12] = [1, 1, 2, 10, 10, 2, 10, 1, 10, 10, 10, 5];
 
 /// The fields of a row and their widths, in document 01's order with those of document 02,
 /// paper 1.
@@ -43,16 +44,17 @@ const ROW_FIELDS: [(&str, usize); 11] = [
 
 /// Where the contracts and the rows begin, in bits, and the bits of each.
 const CONTRACTS_PLACE: usize = 64;
-const CONTRACT_BITS: usize = 40;
+const CONTRACT_BITS: usize = 72;
 const ROWS_PLACE: usize = CONTRACTS_PLACE + CONTRACTS * CONTRACT_BITS;
 const ROW_BITS: usize = 200;
 
 /// The highest share that a row's field has room for.
 const HIGHEST_SHARE: u32 = (1 << 27) - 1;
 
-/// Lengths that aren't a ledger's; 18,760 was one before rows had shares.
-const WRONG_LENGTHS: [usize; 15] = [
-    0, 1, 7, 8, 9, 327, 328, 329, 353, 18_760, 25_903, 25_927, 25_929, 25_953, 51_856,
+/// Lengths that aren't a ledger's; 18,760 was one before rows had shares, and 25,928 before contracts
+/// had amendments.
+const WRONG_LENGTHS: [usize; 16] = [
+    0, 1, 7, 8, 9, 583, 584, 585, 609, 18_760, 25_928, 26_159, 26_183, 26_185, 26_209, 52_368,
 ];
 
 /// The rows that get every value in every field: the first ones, and as many drawn ones.
@@ -158,7 +160,7 @@ fn limits(width: usize) -> &'static [u64] {
     match width {
         1 => &[0, 1],
         2 => &[0, 1, 2, 3],
-        4 => &[1, 2, 4, 8, 15],
+        5 => &[1, 2, 4, 8, 16, 31],
         6 => &[0, 1, 31, 62, 63],
         10 => &[0, 1, 485, 486, 510, 511, 791, 792, 851, 852, 1_023],
         16 => &[0, 1, 999, 1_000, 1_001, 32_768, 65_535],
@@ -232,7 +234,7 @@ fn resized(ledger: &[u8], length: usize) -> Vec<u8> {
 }
 
 /// The ledger with its numbers edited; the number of held rows is given to the edit.
-fn edited(ledger: &[u8], edit: impl FnOnce(&mut LedgerNumbers, usize)) -> Vec<u8> {
+pub fn edited(ledger: &[u8], edit: impl FnOnce(&mut LedgerNumbers, usize)) -> Vec<u8> {
     let mut numbers = LedgerNumbers::read(ledger);
     let held = numbers.rows.iter().filter(|row| row.held).count();
     edit(&mut numbers, held);
@@ -322,7 +324,7 @@ fn unused_slot_not_zero(random: &mut Random, ledger: &[u8], number: usize) -> Ve
 /// The last bits of a contract or of a row are set.
 fn padding_not_zero(random: &mut Random, ledger: &[u8], number: usize) -> Vec<u8> {
     edited(ledger, |numbers, _| match number % 2 {
-        0 => numbers.contracts[random.below(CONTRACTS)].zeros = random.within(1..=15),
+        0 => numbers.contracts[random.below(CONTRACTS)].zeros = random.within(1..=31),
         _ => numbers.rows[random.below(MOST_ROWS)].zeros = random.within(1..=3),
     })
 }
@@ -387,7 +389,7 @@ fn shares_exchanged(random: &mut Random, ledger: &[u8], _: usize) -> Vec<u8> {
 }
 
 /// One of the items, if there is any.
-fn one_if_any<T>(random: &mut Random, items: impl Iterator<Item = T>) -> Option<T> {
+pub fn one_if_any<T>(random: &mut Random, items: impl Iterator<Item = T>) -> Option<T> {
     let mut items: Vec<T> = items.collect();
     (!items.is_empty()).then(|| items.swap_remove(random.below(items.len())))
 }

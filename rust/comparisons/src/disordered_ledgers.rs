@@ -3,10 +3,10 @@
 
 use crate::counts::Findings;
 use crate::disorders::DISORDERS;
-use crate::each_call::{compare_each_call, NAMES};
+use crate::each_call::{compare_each_call, Subject, NAMES};
 use crate::random::Random;
 use crate::searched_ledgers::{searched_facts, shapes_and_sizes, Shape};
-use calculator::packed::Facts;
+use calculator::packed::{pack, Facts};
 
 const KIND: &str = "disordered ledgers";
 
@@ -54,7 +54,12 @@ fn compare_rows(
 ) {
     findings.library.count_run(KIND);
     let place = format!("{place}, {sort}");
-    let names = compare_each_call(findings, random, facts, sort != IN_ORDER, &place);
+    let subject = Subject {
+        ledger: &pack(facts),
+        facts,
+        refused: sort != IN_ORDER,
+    };
+    let names = compare_each_call(findings, random, &subject, &place);
     if names.len() == NAMES.len() {
         findings.disordered_ledgers.count(sort);
     }

@@ -7,30 +7,42 @@ use crate::counts::Findings;
 use crate::generator::EACH_BUT_START;
 use crate::random::Random;
 use calculator::calls::{Call, Outcome};
-use calculator::packed::{pack, Facts};
+use calculator::packed::Facts;
 use calculator::refusals::LEDGER_NOT_WELL_FORMED;
 
 /// The calls on a ledger, each once.
-pub const NAMES: [&str; 8] = [
-    "open", "bill", "rebill", "cert", "cancel", "claim", "report", "total",
+pub const NAMES: [&str; 9] = [
+    "open", "bill", "rebill", "cert", "cancel", "claim", "report", "total", "amend",
 ];
 
-/// Compares each call on the ledger of the facts, and gives the names of those that the calculator
-/// refuses by number 2, or doesn't, as it must; another one is a difference. The place says where
-/// in the comparisons the ledger stands.
+/// A ledger, which is well formed or isn't.
+pub struct Subject<'a> {
+    pub ledger: &'a [u8],
+    /// By these the calls on it are drawn.
+    pub facts: &'a Facts,
+    /// Whether every call is refused by number 2.
+    pub refused: bool,
+}
+
+/// Compares each call on the ledger, and gives the names of those that the calculator refuses by
+/// number 2, or doesn't, as it must; another one is a difference. The place says where in the
+/// comparisons the ledger stands.
 pub fn compare_each_call(
     findings: &mut Findings,
     random: &mut Random,
-    facts: &Facts,
-    refused: bool,
+    subject: &Subject,
     place: &str,
 ) -> Vec<&'static str> {
-    let ledger = pack(facts);
+    let &Subject {
+        ledger,
+        facts,
+        refused,
+    } = subject;
     let mut names = Vec::new();
     for draw in EACH_BUT_START {
         let call = draw(random, facts);
         let ledger_call = LedgerCall {
-            ledger: &ledger,
+            ledger,
             book: &random_book(random, &call),
             call: &call,
         };

@@ -1,7 +1,8 @@
 //! Random calls that mean something to a ledger: they bill open contracts on free days, mostly
-//! within one month where their prices are monthly, rebill and cancel rows that are held, and
-//! date certificates by them, at their edges and inside. Some get a number that is off by one
-//! or has nothing to do with the ledger.
+//! within one month where their prices are monthly and beside the original end where they are
+//! amended, rebill and cancel rows that are held, date certificates by them, at their edges and
+//! inside, and amend fixed contracts. Some get a number that is off by one or has nothing to do
+//! with the ledger.
 
 use crate::months::month_end;
 use crate::random::Random;
@@ -10,7 +11,7 @@ use calculator::codes::{spans_share_a_day, Territory, HIGHEST_PRICE, MOST_KWH, S
 use calculator::dates::LAST_DAY;
 use calculator::facts::CONTRACTS;
 use calculator::packed::{Facts, Row};
-use calculator::rates::{Kind, NEW_QHS_MINIMUM_DAY};
+use calculator::rates::{Contract, Kind, NEW_QHS_MINIMUM_DAY};
 
 /// Draws a call on a ledger with these facts.
 pub type Draw = fn(&mut Random, &Facts) -> Call;
@@ -28,6 +29,7 @@ pub const MIXED: &Profile = &[
     (8, claim),
     (5, report),
     (4, total),
+    (6, amend),
     (1, start),
 ];
 
@@ -41,6 +43,7 @@ pub const FILLING: &Profile = &[
     (1, claim),
     (1, report),
     (1, total),
+    (2, amend),
 ];
 
 /// Many claims, with few bills between them.
@@ -52,6 +55,7 @@ pub const CLAIMING: &Profile = &[
     (1, cancel),
     (90, claim),
     (1, total),
+    (1, amend),
 ];
 
 /// Contracts with a few bills each.
@@ -70,7 +74,9 @@ pub const ON_ROWS: &Profile = &[
 ];
 
 /// Each call but start, once.
-pub const EACH_BUT_START: [Draw; 8] = [open, bill, rebill, cert, cancel, claim, report, total];
+pub const EACH_BUT_START: [Draw; 9] = [
+    open, bill, rebill, cert, cancel, claim, report, total, amend,
+];
 
 /// First days at the edges of the scheme, of QHS certificates and of the new QHS minimum.
 const BOUNDARY_DAYS: [u32; 6] = [486, 510, 511, 791, 792, 851];
@@ -114,6 +120,15 @@ const DISTURBED_ONCE_IN: usize = 10;
 
 /// One rebill in that many has a span that has nothing to do with the row.
 const OTHER_SPAN_ONCE_IN: usize = 10;
+
+/// One bill of an amended contract in that many is beside its original end.
+const BESIDE_END_ONCE_IN: usize = 2;
+
+/// One span in that many that crosses an original end is left as it is.
+const ACROSS_END_ONCE_IN: usize = 4;
+
+/// One amendment in that many is of any open contract, and not of a fixed one that is unamended.
+const OTHER_AMENDMENT_ONCE_IN: usize = 6;
 
 /// The days of the longest bill, and of the longest among many.
 const MOST_DAYS: u32 = 40;
@@ -165,7 +180,7 @@ fn disturbed(random: &mut Random, call: &Call) -> Call {
     Call::of(call.name(), &numbers).expect("the name and the count of numbers are a call's")
 }
 
-fn open(random: &mut Random, facts: &Facts) -> Call {
+pub fn open(random: &mut Random, facts: &Facts) -> Call {
     let contract = free_number(random, facts);
     let fuel = random.within(0..=1);
     let index_in_place = fuel == 0 && facts.territory == Territory::NorthernIreland;
@@ -198,7 +213,11 @@ fn short_bill(random: &mut Random, facts: &Facts) -> Call {
 
 fn bill_of_days(random: &mut Random, facts: &Facts, most_days: u32) -> Call {
     let contract = open_contract(random, facts);
-    let draw = |random: &mut Random| any_span(random, most_days);
+    let end = original_end(facts, contract);
+    let draw = |random: &mut Random| match end {
+        Some(end) if random.once_in(BESIDE_END_ONCE_IN) => span_beside_end(random, end, most_days),
+        _ => any_span(random, most_days),
+    };
     let span = free_span(random, facts, contract, draw);
     Call::Bill(bill_numbers(random, facts, contract, span))
 }
@@ -275,6 +294,38 @@ pub fn report(random: &mut Random, facts: &Facts) -> Call {
 
 pub fn total(_: &mut Random, _: &Facts) -> Call {
     Call::Total
+}
+
+/// An amendment, mostly of a fixed contract that is unamended. Its original end is mostly the last
+/// day of the contract's rows or a later one.
+pub fn amend(random: &mut Random, facts: &Facts) -> Call {
+    let one = random.mostly_one_of(&unamended_numbers(facts), OTHER_AMENDMENT_ONCE_IN);
+    let contract = one.unwrap_or_else(|| open_contract(random, facts));
+    let rows = facts.rows.iter().filter(|row| row.contract == contract);
+    let last_billed = rows.map(|row| row.bill.last_day).max();
+    let original_end_day = match last_billed {
+        Some(last) if !random.once_in(6) => {
+            let later = random.within(last..=LAST_DAY);
+            random.one_of(&[last - 1, last, last, later, later])
+        }
+        _ => first_day(random),
+    };
+    Call::Amend {
+        contract,
+        original_end_day,
+        price_fix_day: contract_day(random),
+        entry_day: entry_day(random),
+    }
+}
+
+/// The numbers of the fixed contracts that are unamended.
+pub fn unamended_numbers(facts: &Facts) -> Vec<u32> {
+    let mut numbers = contract_numbers(facts, true);
+    numbers.retain(|&number| {
+        contract_of_number(facts, number)
+            .is_some_and(|contract| contract.kind.is_fixed() && contract.amendment.is_none())
+    });
+    numbers
 }
 
 /// The numbers of a bill of the contract and span; WAP is 0 unless the contract is flexible.
@@ -365,9 +416,19 @@ pub fn free_number(random: &mut Random, facts: &Facts) -> u32 {
     number_of(random, &contract_numbers(facts, false))
 }
 
+/// The contract of the number, if it is open.
+pub fn contract_of_number(facts: &Facts, number: u32) -> Option<Contract> {
+    *facts.contracts.get(number as usize)?
+}
+
 fn kind_of(facts: &Facts, contract: u32) -> Option<Kind> {
-    let contract = facts.contracts.get(contract as usize)?.as_ref()?;
-    Some(contract.kind)
+    Some(contract_of_number(facts, contract)?.kind)
+}
+
+/// The original end of a contract, if it is amended.
+pub fn original_end(facts: &Facts, contract: u32) -> Option<u32> {
+    let amendment = contract_of_number(facts, contract)?.amendment?;
+    Some(amendment.original_end_day)
 }
 
 pub fn held_row(random: &mut Random, facts: &Facts) -> Option<Row> {
@@ -426,7 +487,8 @@ pub fn free_span(
 }
 
 /// The span for a bill of the contract: where its prices are monthly, the span mostly ends in
-/// its first month, at times with the month's last day or one more.
+/// its first month, at times with the month's last day or one more; where it is amended, one that
+/// would cross the original end mostly ends with it.
 fn span_of_contract(
     random: &mut Random,
     facts: &Facts,
@@ -434,7 +496,9 @@ fn span_of_contract(
     (first, last): (u32, u32),
 ) -> (u32, u32) {
     if !kind_of(facts, contract).is_some_and(Kind::has_monthly_prices) {
-        return (first, last);
+        let end = original_end(facts, contract);
+        let end = end.filter(|&end| first <= end && !random.once_in(ACROSS_END_ONCE_IN));
+        return (first, end.map_or(last, |end| last.min(end)));
     }
     let month_end = month_end(first);
     let last = match random.below(10) {
@@ -452,6 +516,25 @@ fn any_span(random: &mut Random, most_days: u32) -> (u32, u32) {
     (first, last.min(LAST_DAY))
 }
 
+/// A span of the scheme beside an original end: it ends with the end or starts with it, starts after
+/// it, or crosses it.
+pub fn span_beside_end(random: &mut Random, end: u32, most_days: u32) -> (u32, u32) {
+    let days = random.within(0..=most_days - 1);
+    let after = end + 1;
+    let (first, last) = random.one_of(&[
+        (end - days, end),
+        (end - days, end - days / 2),
+        (end, end),
+        (after, after + days),
+        (after + days / 2, after + days),
+        (end - days, after),
+        (end - days, after + days),
+        (end, after + days),
+    ]);
+    let first = first.clamp(SCHEME_FIRST_DAY, LAST_DAY);
+    (first, last.clamp(first, LAST_DAY))
+}
+
 /// A day of the span or the day after it, often one at the span's edges.
 pub fn day_of_span(random: &mut Random, (first, last): (u32, u32)) -> u32 {
     let any = random.within(first..=last);
@@ -460,11 +543,11 @@ pub fn day_of_span(random: &mut Random, (first, last): (u32, u32)) -> u32 {
 
 #[cfg(test)]
 mod tests {
-    use super::{random_shares, span_of_contract, HIGH_SHARES};
+    use super::{random_shares, span_beside_end, span_of_contract, HIGH_SHARES};
     use crate::random::Random;
     use calculator::codes::Territory;
     use calculator::packed::Facts;
-    use calculator::rates::{Certificate, Contract, Fuel, Kind};
+    use calculator::rates::{Amendment, Certificate, Contract, Fuel, Kind};
     use std::collections::{BTreeMap, BTreeSet};
 
     #[test]
@@ -489,15 +572,30 @@ mod tests {
         }
     }
 
-    /// How often each last day is drawn for a bill of a contract of the kind whose span would be
-    /// day 510 to the last day given.
-    fn last_days(kind: Kind, last: u32) -> BTreeMap<u32, u32> {
-        let mut facts = Facts::fresh(Territory::NorthernIreland);
-        facts.contracts[0] = Some(Contract {
+    const FIXED: Kind = Kind::Fixed {
+        price_fix_day: 0,
+        entry_day: 0,
+    };
+
+    fn contract(kind: Kind) -> Contract {
+        Contract {
             fuel: Fuel::Electricity,
             kind,
             certificate: Certificate::None,
-        });
+            amendment: None,
+        }
+    }
+
+    /// How often each last day is drawn for a bill of a contract of the kind whose span would be
+    /// day 510 to the last day given.
+    fn last_days(kind: Kind, last: u32) -> BTreeMap<u32, u32> {
+        last_days_of(contract(kind), last)
+    }
+
+    /// The same of the contract.
+    fn last_days_of(contract: Contract, last: u32) -> BTreeMap<u32, u32> {
+        let mut facts = Facts::fresh(Territory::NorthernIreland);
+        facts.contracts[0] = Some(contract);
         let mut random = Random::new(1, "spans", 0);
         let mut times = BTreeMap::new();
         for _ in 0..1_000 {
@@ -519,13 +617,56 @@ mod tests {
         }
     }
 
-    #[test]
-    fn other_bills_keep_their_span() {
-        let fixed = Kind::Fixed {
+    /// How often each last day is drawn for a bill of a contract with that original end whose span
+    /// would be day 510 to 530.
+    fn last_days_of_amended(original_end_day: u32) -> BTreeMap<u32, u32> {
+        let amendment = Amendment {
+            original_end_day,
             price_fix_day: 0,
             entry_day: 0,
         };
-        for kind in [fixed, Kind::Flexible] {
+        last_days_of(
+            Contract {
+                amendment: Some(amendment),
+                ..contract(FIXED)
+            },
+            530,
+        )
+    }
+
+    #[test]
+    fn bills_across_an_original_end_mostly_end_with_it() {
+        let times = last_days_of_amended(520);
+        assert!(times.keys().eq(&[520, 530]));
+        assert!(times[&520] > 600);
+        for end in [509, 530] {
+            assert!(last_days_of_amended(end).keys().eq(&[530]), "{end}");
+        }
+    }
+
+    /// Before the end and with it, on it, after it and across it.
+    #[test]
+    fn spans_beside_an_original_end_are_drawn() {
+        let mut random = Random::new(1, "ends", 0);
+        let drawn: BTreeSet<(u32, u32)> = (0..20_000)
+            .map(|_| span_beside_end(&mut random, 800, 10))
+            .collect();
+        let spans = [(791, 796), (791, 800), (800, 800), (801, 801), (801, 810)];
+        for span in spans
+            .into_iter()
+            .chain([(805, 810), (791, 801), (800, 801)])
+        {
+            assert!(drawn.contains(&span), "{span:?}");
+        }
+        for end in [486, 851] {
+            let (first, last) = span_beside_end(&mut random, end, 10);
+            assert!(486 <= first && first <= last && last <= 851);
+        }
+    }
+
+    #[test]
+    fn other_bills_keep_their_span() {
+        for kind in [FIXED, Kind::Flexible] {
             assert!(last_days(kind, 530).keys().eq(&[530]));
         }
     }

@@ -55,6 +55,18 @@ macro_rules! answer {
             Call::Claim => $functions::claim($ledger),
             Call::Report { contract } => $functions::report($ledger, contract),
             Call::Total => $functions::total($ledger),
+            Call::Amend {
+                contract,
+                original_end_day,
+                price_fix_day,
+                entry_day,
+            } => $functions::amend(
+                $ledger,
+                contract,
+                original_end_day,
+                price_fix_day,
+                entry_day,
+            ),
         }
     };
 }

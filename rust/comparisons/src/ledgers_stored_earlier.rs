@@ -6,11 +6,11 @@ use crate::changes_inside::{amount_by_first_day, stretches};
 use crate::changing_calls::CHANGING;
 use crate::counts::Findings;
 use crate::damaged_ledgers::random_facts;
-use crate::each_call::{compare_each_call, NAMES};
+use crate::each_call::{compare_each_call, Subject, NAMES};
 use crate::random::Random;
 use crate::rows_met::contract_of;
 use calculator::codes::Territory;
-use calculator::packed::{Facts, Row};
+use calculator::packed::{pack, Facts, Row};
 
 const KIND: &str = "ledgers stored earlier";
 
@@ -71,8 +71,12 @@ fn compare_ledger(findings: &mut Findings, seed: u64, number: u64) {
         if let Some(facts) = (stored.facts)(&mut random, &facts) {
             findings.library.count_run(KIND);
             let place = format!("seed {seed}, {KIND}, number {number}, {}", stored.name);
-            let refused = stored.refused;
-            for name in compare_each_call(findings, &mut random, &facts, refused, &place) {
+            let subject = Subject {
+                ledger: &pack(&facts),
+                facts: &facts,
+                refused: stored.refused,
+            };
+            for name in compare_each_call(findings, &mut random, &subject, &place) {
                 let sort = sort(stored, name);
                 findings.ledgers_stored_earlier.count(&sort);
             }

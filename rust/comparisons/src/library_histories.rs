@@ -2,7 +2,10 @@
 //! before it left it, and each bill its own book (document 01, section "A history and its
 //! sheet").
 
+use crate::amending_calls::AMENDING;
+use crate::amendments_met::count_call;
 use crate::books::random_book;
+use crate::call_made::CallMade;
 use crate::changing_calls::CHANGING;
 use crate::compared_calls::{compare_call, LedgerCall};
 use crate::counts::Findings;
@@ -22,7 +25,7 @@ struct Histories {
 }
 
 /// Enough calls that the rows, and the claims, are used up before the last ones.
-const HISTORIES: [Histories; 4] = [
+const HISTORIES: [Histories; 5] = [
     Histories {
         kind: "mixed histories",
         count: 1_750,
@@ -47,6 +50,12 @@ const HISTORIES: [Histories; 4] = [
         calls: 750,
         profile: CHANGING,
     },
+    Histories {
+        kind: "histories of amended contracts",
+        count: 300,
+        calls: 400,
+        profile: AMENDING,
+    },
 ];
 
 /// Compares the histories of every kind.
@@ -68,33 +77,37 @@ fn compare_history(findings: &mut Findings, histories: &Histories, seed: u64, nu
     let mut call = start(&mut random, &facts);
     for step in 0..=histories.calls {
         let place = || format!("seed {seed}, {kind}, number {number}, call {step}");
-        let (_, left) = compare_next_call(findings, &mut random, &mut ledger, &call, place);
+        let book = random_book(&mut random, &call);
+        let (outcome, left) = compare_next_call(findings, &mut ledger, &book, &call, place);
         if let Call::Cert { contract, .. } = call {
             count_certificate(&mut findings.rows, contract, &facts, &left);
         }
         let changes = &mut findings.library.changes;
         changes.count_call(call.name(), &facts, &left);
+        let made = CallMade {
+            call: &call,
+            book: &book,
+            outcome: &outcome,
+            before: &facts,
+            after: &left,
+        };
+        count_call(&mut findings.library.amendments, &made);
         facts = left;
         call = random_call(&mut random, &facts, histories.profile);
     }
     count_rows(&mut findings.rows, &facts);
 }
 
-/// Compares the next call of a history, with a book of its own, and gives its outcome and the
-/// facts that it leaves in the ledger.
+/// Compares the next call of a history, with the book that it brings, and gives its outcome and
+/// the facts that it leaves in the ledger.
 pub fn compare_next_call(
     findings: &mut Findings,
-    random: &mut Random,
     ledger: &mut Vec<u8>,
+    book: &[u32],
     call: &Call,
     place: impl Fn() -> String,
 ) -> (Outcome, Facts) {
-    let book = random_book(random, call);
-    let ledger_call = LedgerCall {
-        ledger,
-        book: &book,
-        call,
-    };
+    let ledger_call = LedgerCall { ledger, book, call };
     let expected = compare_call(findings, &ledger_call, place);
     *ledger = expected.ledger;
     let left = unpack(ledger).expect("a history leaves a well-formed ledger");

@@ -2,13 +2,17 @@
 //! outcome and every byte of the ledger. It prints what it met, and fails on a difference and
 //! where something was met too few times to count as compared.
 
+mod amending_calls;
+mod amendments_met;
 mod books;
+mod call_made;
 mod changes_inside;
 mod changes_met;
 mod changing_calls;
 mod compared_calls;
 mod counts;
 mod cuts;
+mod damaged_amendments;
 mod damaged_ledgers;
 mod damages;
 mod dates;
@@ -55,6 +59,7 @@ fn main() -> ExitCode {
     searches::compare(&mut findings, seed);
     disordered_ledgers::compare(&mut findings, seed);
     damaged_ledgers::compare(&mut findings, seed);
+    damaged_amendments::compare(&mut findings, seed);
     findings.print();
     if findings.passed() {
         ExitCode::SUCCESS

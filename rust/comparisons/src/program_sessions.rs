@@ -1,11 +1,17 @@
 //! Sessions of the compiled program: what it prints is the calculator's transcript
 //! (document 01, section "The program and one run").
 
+use crate::amending_calls::AMENDING;
+use crate::amendments_met::count_call;
+use crate::call_made::CallMade;
 use crate::changing_calls::CHANGING;
 use crate::counts::Findings;
 use crate::generator::{Profile, CLAIMING, FILLING, MIXED};
 use crate::random::Random;
 use crate::session_text::random_session;
+use calculator::book::BOOK_ENTRIES;
+use calculator::calls::{Call, Outcome};
+use calculator::refusals::UNREADABLE_LINE;
 use calculator::session::{transcript, Session, INPUT_BYTES};
 use std::borrow::Cow;
 use std::ops::RangeInclusive;
@@ -32,7 +38,7 @@ struct Sessions {
 }
 
 /// The longest ones are ended by the input's limit, after the rows or the claims are used up.
-const SESSIONS: [Sessions; 4] = [
+const SESSIONS: [Sessions; 5] = [
     Sessions {
         kind: "mixed sessions",
         count: 6_500,
@@ -56,6 +62,12 @@ const SESSIONS: [Sessions; 4] = [
         count: 240,
         calls: 400..=600,
         profile: CHANGING,
+    },
+    Sessions {
+        kind: "sessions of amended contracts",
+        count: 300,
+        calls: 400..=600,
+        profile: AMENDING,
     },
 ];
 
@@ -101,7 +113,7 @@ pub fn compare_session(findings: &mut Findings, kind: &'static str, place: &str,
     findings.program.count_run(kind);
     let expected = transcript(input);
     count_lines(findings, input, &expected);
-    count_changes(findings, input);
+    count_calls(findings, input);
     let printed = program::printed(input);
     if printed != expected {
         findings.count_difference(|| {
@@ -121,21 +133,49 @@ fn count_lines(findings: &mut Findings, input: &[u8], expected: &[u8]) {
     }
 }
 
-/// Counts the bills with a change inside that the lines of an input rate.
-fn count_changes(findings: &mut Findings, input: &[u8]) {
+/// Counts the bills with a change inside that the lines of an input rate, and the calls on amended
+/// contracts.
+fn count_calls(findings: &mut Findings, input: &[u8]) {
     if input.len() > INPUT_BYTES {
         return;
     }
     let mut session = Session::fresh();
+    let mut book = [0; BOOK_ENTRIES];
     let mut before = session.facts();
     for line in lines(input) {
-        // the outcome is compared with what the program prints
-        let _ = session.reply(line);
+        let outcome = session.reply(line);
         let after = session.facts();
+        let name = name_of(line);
         let changes = &mut findings.program.changes;
-        changes.count_call(&name_of(line), &before, &after);
+        changes.count_call(&name, &before, &after);
+        let numbers = numbers_of(line, &outcome);
+        if let (Ok(_), &[index, price]) = (&outcome, numbers.as_slice()) {
+            if name == "price" {
+                book[index as usize] = price;
+            }
+        }
+        if let Some(call) = Call::of(&name, &numbers) {
+            let made = CallMade {
+                call: &call,
+                book: &book,
+                outcome: &outcome,
+                before: &before,
+                after: &after,
+            };
+            count_call(&mut findings.program.amendments, &made);
+        }
         before = after;
     }
+}
+
+/// The numbers of a line, none if it can't be read.
+fn numbers_of(line: &[u8], outcome: &Outcome) -> Vec<u32> {
+    if *outcome == Err(UNREADABLE_LINE) {
+        return Vec::new();
+    }
+    let words = std::str::from_utf8(line).unwrap_or_default();
+    let words = words.split_ascii_whitespace().skip(1);
+    words.map_while(|word| word.parse().ok()).collect()
 }
 
 /// The name of the call that a line asks for, if it can be read.
@@ -168,7 +208,7 @@ fn lines(text: &[u8]) -> impl Iterator<Item = &[u8]> {
 
 #[cfg(test)]
 mod tests {
-    use super::{count_changes, Findings};
+    use super::{count_calls, Findings};
 
     /// Of three bills the first has no change inside and the last is refused.
     #[test]
@@ -182,7 +222,7 @@ cert 0 1 500
 total
 ";
         let mut findings = Findings::new();
-        count_changes(&mut findings, input);
+        count_calls(&mut findings, input);
         let counts = findings.program.changes.met().map(|(_, counts)| counts);
         let met = counts.concat().into_iter().filter(|&(_, times)| times > 0);
         assert!(met.eq([

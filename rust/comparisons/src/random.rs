@@ -51,6 +51,12 @@ impl Random {
         items[self.below(items.len())]
     }
 
+    /// One of the items, but none once in that many times, and where there is none.
+    pub fn mostly_one_of<T: Copy>(&mut self, items: &[T], none_once_in: usize) -> Option<T> {
+        let none = items.is_empty() || self.once_in(none_once_in);
+        (!none).then(|| self.one_of(items))
+    }
+
     /// One of the items, drawn by weight.
     pub fn weighted<T: Copy>(&mut self, items: &[(usize, T)]) -> T {
         let all = items.iter().map(|(weight, _)| weight).sum();

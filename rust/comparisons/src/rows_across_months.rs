@@ -2,10 +2,11 @@
 //! row, but one that is stored stands (document 02, paper 2). The calls that meet it are counted
 //! by what they do.
 
+use crate::call_made::CallMade;
 use crate::months::months_touched;
 use crate::rows_met::{contract_name, contract_of, key};
 use crate::sorts::Sorts;
-use calculator::calls::{Call, Outcome};
+use calculator::calls::Call;
 use calculator::packed::{Facts, Row};
 use calculator::rates::{class_of_bill, Class};
 use calculator::refusals::SPAN_TOUCHES_TWO_MONTHS;
@@ -54,14 +55,6 @@ pub fn rows_across_months(facts: &Facts) -> impl Iterator<Item = &Row> {
     rows.filter(move |row| monthly(row) && months_touched(row.bill.span()) > 1)
 }
 
-/// A call with its outcome, and the facts before it and after it.
-pub struct CallMade<'a> {
-    pub call: &'a Call,
-    pub outcome: &'a Outcome,
-    pub before: &'a Facts,
-    pub after: &'a Facts,
-}
-
 /// Counts the sorts that a call met, each once.
 pub fn count_call(sorts: &mut Sorts, made: &CallMade) {
     let rows = rows_across_months(made.before).filter(|row| concerns(made.call, row));
@@ -86,7 +79,9 @@ fn concerns(call: &Call, row: &Row) -> bool {
         Call::Bill(numbers) => numbers.contract == row.contract,
         Call::Rebill(numbers) => (numbers.contract, numbers.first) == key(row),
         Call::Cancel { contract, first } => (contract, first) == key(row),
-        Call::Start { .. } | Call::Open { .. } | Call::Claim | Call::Total => false,
+        Call::Start { .. } | Call::Open { .. } | Call::Claim | Call::Total | Call::Amend { .. } => {
+            false
+        }
     }
 }
 
@@ -115,7 +110,8 @@ fn class(facts: &Facts, row: &Row) -> Class {
 
 #[cfg(test)]
 mod tests {
-    use super::{count_call, sorts, CallMade};
+    use super::{count_call, sorts};
+    use crate::call_made::CallMade;
     use crate::sorts::Sorts;
     use calculator::calls::Call;
     use calculator::codes::Territory;
@@ -139,6 +135,7 @@ mod tests {
             fuel: Fuel::Electricity,
             kind,
             certificate: Certificate::None,
+            amendment: None,
         };
         facts.contracts[5] = Some(contract(Kind::Variable));
         facts.contracts[6] = Some(contract(Kind::Flexible));
@@ -166,9 +163,11 @@ mod tests {
         let call = Call::of(name, numbers).expect("a call");
         let before = facts();
         let mut module = PostingModule::from_facts(&before);
-        let outcome = module.call(&[31_980; 1_740], &call);
+        let book = [31_980; 1_740];
+        let outcome = module.call(&book, &call);
         let made = CallMade {
             call: &call,
+            book: &book,
             outcome: &outcome,
             before: &before,
             after: &module.facts(),

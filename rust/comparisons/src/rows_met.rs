@@ -113,7 +113,7 @@ fn sorts_of_row(contract: &Contract, bill: &Bill) -> Vec<String> {
         sort_by_certificate(shares, class),
     ];
     if bill.qhs_share != 0 {
-        let sort = sort_by_qhs_minimum(contract.kind, bill.first_day);
+        let sort = sort_by_qhs_minimum(contract.kind_of_bill(bill.first_day), bill.first_day);
         sorts.extend(sort.map(str::to_string));
     }
     sorts

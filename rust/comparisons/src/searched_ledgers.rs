@@ -155,6 +155,7 @@ fn any_contract(random: &mut Random) -> Contract {
         fuel: random.one_of(&[Fuel::Electricity, Fuel::Gas]),
         kind: random.one_of(&[Kind::Flexible, fixed]),
         certificate: random.one_of(&certificates),
+        amendment: None,
     }
 }
 

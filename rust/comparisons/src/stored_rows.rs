@@ -1,13 +1,15 @@
 //! Histories on ledgers that hold rows across two months and across three of variable and index
 //! contracts. No call makes such a row, so the ledgers are packed from facts.
 
+use crate::books::random_book;
+use crate::call_made::CallMade;
 use crate::counts::Findings;
 use crate::damaged_ledgers::random_facts;
 use crate::generator::{random_call, BILLING, ON_ROWS};
 use crate::library_histories::compare_next_call;
 use crate::months::month_end;
 use crate::random::Random;
-use crate::rows_across_months::{count_call, rows_across_months, CallMade};
+use crate::rows_across_months::{count_call, rows_across_months};
 use crate::rows_met::{contract_of, row_of};
 use calculator::codes::{spans_share_a_day, Territory};
 use calculator::dates::LAST_DAY;
@@ -53,9 +55,11 @@ fn compare_history(findings: &mut Findings, seed: u64, number: u64) {
         }
         let call = random_call(&mut random, &aimed_at, ON_ROWS);
         let place = || format!("seed {seed}, {KIND}, number {number}, call {step}");
-        let (outcome, left) = compare_next_call(findings, &mut random, &mut ledger, &call, place);
+        let book = random_book(&mut random, &call);
+        let (outcome, left) = compare_next_call(findings, &mut ledger, &book, &call, place);
         let made = CallMade {
             call: &call,
+            book: &book,
             outcome: &outcome,
             before: &facts,
             after: &left,

@@ -1,4 +1,5 @@
-//! The calls of document 01 (section "Calls") on bytes of any length and with any numbers.
+//! The calls of document 01 (section "Calls") and of document 02, on bytes of any length and with
+//! any numbers.
 //!
 //! A call answers three numbers in document 01's order, unused ones 0. A call that is turned
 //! down changes no byte.
@@ -80,6 +81,15 @@ extern "C" {
     fn ebds_report(ledger: *const u8, ledger_length: usize, contract: u32, answer: *mut i64)
         -> u32;
     fn ebds_total(ledger: *const u8, ledger_length: usize, answer: *mut i64) -> u32;
+    fn ebds_amend(
+        ledger: *mut u8,
+        ledger_length: usize,
+        contract: u32,
+        original_end_day: u32,
+        price_fix_day: u32,
+        entry_day: u32,
+        answer: *mut i64,
+    ) -> u32;
     fn ebds_day(year: u32, month: u32, day: u32, answer: *mut i64) -> u32;
     fn ebds_date(day_number: u32, answer: *mut i64) -> u32;
 }
@@ -121,7 +131,7 @@ pub fn start(ledger: &mut [u8], territory: u32) -> Answer {
     answer(|answer| unsafe { ebds_start(ledger.as_mut_ptr(), ledger.len(), territory, answer) })
 }
 
-/// open: a contract without a certificate; the two days are 0 unless fixed. Answers no numbers.
+/// open: an unamended contract without a certificate; the two days are 0 unless fixed. Answers no numbers.
 pub fn open(
     ledger: &mut [u8],
     contract: u32,
@@ -211,6 +221,28 @@ pub fn report(ledger: &[u8], contract: u32) -> Answer {
 /// total: answers due, and due minus 10,000 times the pence claimed. It changes no byte.
 pub fn total(ledger: &[u8]) -> Answer {
     answer(|answer| unsafe { ebds_total(ledger.as_ptr(), ledger.len(), answer) })
+}
+
+/// amend: gives a fixed contract its amendment: bills that start after the original end take these
+/// price-fix and entry days. It alters no row. Answers no numbers.
+pub fn amend(
+    ledger: &mut [u8],
+    contract: u32,
+    original_end_day: u32,
+    price_fix_day: u32,
+    entry_day: u32,
+) -> Answer {
+    answer(|answer| unsafe {
+        ebds_amend(
+            ledger.as_mut_ptr(),
+            ledger.len(),
+            contract,
+            original_end_day,
+            price_fix_day,
+            entry_day,
+            answer,
+        )
+    })
 }
 
 /// day: answers the day number of a date.

@@ -1,4 +1,4 @@
-//! A packed ledger with typed calls (document 01, section "Calls").
+//! A packed ledger with typed calls (document 01, section "Calls"; document 02, paper 5).
 
 use crate::{calls, BillNumbers, Refusal, LEDGER_LENGTH};
 
@@ -16,7 +16,8 @@ pub enum Fuel {
     Gas,
 }
 
-/// A contract's kind. The days are day numbers.
+/// A contract's kind. The days are day numbers; those of bills after the original end of an amended
+/// contract are the amendment's.
 #[derive(Clone, Copy, Debug, PartialEq, Eq)]
 pub enum Kind {
     Fixed {
@@ -127,7 +128,7 @@ impl Ledger {
         &self.bytes
     }
 
-    /// Opens a contract, without a certificate.
+    /// Opens a contract, unamended and without a certificate.
     pub fn open(&mut self, contract: u32, fuel: Fuel, kind: Kind) -> Result<(), Refusal> {
         let fuel = match fuel {
             Fuel::Electricity => 0,
@@ -207,5 +208,24 @@ impl Ledger {
     pub fn total(&self) -> Result<Totalled, Refusal> {
         let [due, unclaimed, _] = calls::total(&self.bytes)?;
         Ok(Totalled { due, unclaimed })
+    }
+
+    /// Amends a fixed contract: bills that start after the original end take these price-fix and
+    /// entry days. It alters no row.
+    pub fn amend(
+        &mut self,
+        contract: u32,
+        original_end_day: u32,
+        price_fix_day: u32,
+        entry_day: u32,
+    ) -> Result<(), Refusal> {
+        calls::amend(
+            &mut self.bytes,
+            contract,
+            original_end_day,
+            price_fix_day,
+            entry_day,
+        )?;
+        Ok(())
     }
 }

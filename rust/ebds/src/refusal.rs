@@ -1,5 +1,5 @@
 //! What turns a call down (document 01, section "Turned down, in checking order"; document 02,
-//! papers 1 and 2).
+//! papers 1, 2 and 5).
 
 use std::error::Error;
 use std::fmt::{self, Display, Formatter};
@@ -12,9 +12,12 @@ pub enum Refusal {
     BadBook = 3,
     NoSuchContract = 4,
     WronglyOpen = 5,
+    NotAmendable = 16,
     WrongCode = 6,
     WrongDay = 7,
     TwoMonths = 15,
+    CrossesOriginalEnd = 17,
+    RowAfterOriginalEnd = 18,
     WrongQuantity = 8,
     SharesExceedKwh = 14,
     NoSuchRow = 9,
@@ -26,14 +29,17 @@ pub enum Refusal {
 
 impl Refusal {
     /// All of them, in checking order.
-    const ALL: [Refusal; 14] = [
+    const ALL: [Refusal; 17] = [
         Refusal::NotWellFormed,
         Refusal::BadBook,
         Refusal::NoSuchContract,
         Refusal::WronglyOpen,
+        Refusal::NotAmendable,
         Refusal::WrongCode,
         Refusal::WrongDay,
         Refusal::TwoMonths,
+        Refusal::CrossesOriginalEnd,
+        Refusal::RowAfterOriginalEnd,
         Refusal::WrongQuantity,
         Refusal::SharesExceedKwh,
         Refusal::NoSuchRow,
@@ -62,11 +68,16 @@ impl Refusal {
             Refusal::BadBook => "the book isn't 1,740 entries or has one above 999,999",
             Refusal::NoSuchContract => "the contract number is above 63",
             Refusal::WronglyOpen => "the contract is open already, or isn't open",
+            Refusal::NotAmendable => "the contract isn't fixed or is amended already",
             Refusal::WrongCode => {
                 "a territory, fuel, kind or class code has no meaning, or kind 3 is given outside its place"
             }
             Refusal::WrongDay => "a day is wrong",
             Refusal::TwoMonths => "a variable or index span touches two months",
+            Refusal::CrossesOriginalEnd => {
+                "the span starts on or before the original end of an amended contract and ends after it"
+            }
+            Refusal::RowAfterOriginalEnd => "a row of the contract ends after the original end given",
             Refusal::WrongQuantity => {
                 "kWh is above 100,000,000, S or WAP above 999,999, or a WAP not 0 where it must be"
             }

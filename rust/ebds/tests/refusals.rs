@@ -29,8 +29,8 @@ const NEXT: BillNumbers = BillNumbers {
     ..HELD
 };
 
-/// The eight calls of a history, each with numbers that the ledger of these tests takes.
-const CALLS: [(&str, Call); 8] = [
+/// The nine calls of a history, each with numbers that the ledger of these tests takes.
+const CALLS: [(&str, Call); 9] = [
     ("open", |ledger| calls::open(ledger, 1, 0, 2, 0, 0)),
     ("bill", |ledger| calls::bill(ledger, &BOOK, NEXT)),
     ("rebill", |ledger| calls::rebill(ledger, &BOOK, HELD)),
@@ -39,14 +39,16 @@ const CALLS: [(&str, Call); 8] = [
     ("claim", |ledger| calls::claim(ledger)),
     ("report", |ledger| calls::report(ledger, 0)),
     ("total", |ledger| calls::total(ledger)),
+    ("amend", |ledger| calls::amend(ledger, 2, 851, 0, 0)),
 ];
 
-/// A Great Britain ledger with a flexible electricity contract and one bill.
+/// A Great Britain ledger with a flexible electricity contract that has one bill, and a fixed one.
 fn ledger() -> Vec<u8> {
     let mut ledger = vec![0; LEDGER_LENGTH];
     calls::start(&mut ledger, 0).expect("a fresh ledger");
     calls::open(&mut ledger, 0, 0, 2, 0, 0).expect("an open contract");
     calls::bill(&mut ledger, &BOOK, HELD).expect("a bill");
+    calls::open(&mut ledger, 2, 0, 0, 0, 0).expect("an open contract");
     ledger
 }
 
@@ -74,16 +76,25 @@ fn a_damaged_ledger_is_number_2() {
         (7, 0, "a penny without a claim"),
         (0, 6, "32,768 claims"),
         (8, 7, "a contract that isn't open and isn't zeros"),
-        (12, 0, "a bit after a contract's fields"),
-        (13, 0, "a day of a contract that isn't open"),
-        (328, 1, "a row of a contract that isn't open"),
-        (338, 7, "an ETII share that isn't in the amount"),
-        (341, 4, "a QHS share that isn't in the amount"),
-        (352, 2, "an amount that isn't the bill's"),
-        (352, 1, "a bit after a row's fields"),
-        (352, 0, "a row's last bit"),
-        (353, 0, "bits of a row that isn't held"),
-        (378, 7, "a row after one that isn't held"),
+        (12, 3, "an amendment of a contract that isn't fixed"),
+        (12, 2, "an original end day of an unamended contract"),
+        (
+            13,
+            0,
+            "an amendment's price-fix day of an unamended contract",
+        ),
+        (16, 5, "an amendment's entry day of an unamended contract"),
+        (16, 4, "a bit after a contract's fields"),
+        (16, 0, "a contract's last bit"),
+        (17, 0, "a day of a contract that isn't open"),
+        (584, 1, "a row of a contract that isn't open"),
+        (594, 7, "an ETII share that isn't in the amount"),
+        (597, 4, "a QHS share that isn't in the amount"),
+        (608, 2, "an amount that isn't the bill's"),
+        (608, 1, "a bit after a row's fields"),
+        (608, 0, "a row's last bit"),
+        (609, 0, "bits of a row that isn't held"),
+        (634, 7, "a row after one that isn't held"),
         (LEDGER_LENGTH - 1, 0, "the last bit"),
     ] {
         let mut bytes = ledger();
@@ -95,7 +106,7 @@ fn a_damaged_ledger_is_number_2() {
 #[test]
 fn two_rows_that_share_a_day_are_number_2() {
     let mut bytes = ledger();
-    let (rows, free) = bytes[328..].split_at_mut(25);
+    let (rows, free) = bytes[584..].split_at_mut(25);
     free[..25].copy_from_slice(rows);
     expect_not_well_formed(&bytes, "the same row twice");
 }
@@ -119,12 +130,12 @@ fn shares_above_kwh_in_a_row_are_number_2() {
         }
         bytes
     };
-    let (etii_of_1, qhs_of_1) = ((338, 0x80), (341, 0x10));
+    let (etii_of_1, qhs_of_1) = ((594, 0x80), (597, 0x10));
     for taken in [etii_of_1, qhs_of_1] {
         assert_eq!(calls::total(&with(&[taken])), Ok([0; 3]), "{taken:?}");
     }
-    let (etii_of_2, qhs_of_2) = ((337, 0x01), (341, 0x20));
-    let (etii_highest_bit, qhs_highest_bit) = ((334, 0x02), (338, 0x40));
+    let (etii_of_2, qhs_of_2) = ((593, 0x01), (597, 0x20));
+    let (etii_highest_bit, qhs_highest_bit) = ((590, 0x02), (594, 0x40));
     for exceeding in [
         &[etii_of_1, qhs_of_1][..],
         &[etii_of_2],
@@ -140,15 +151,16 @@ fn shares_above_kwh_in_a_row_are_number_2() {
 #[test]
 fn a_wrong_length_is_number_2() {
     let whole = ledger();
-    // 18,760 bytes are a ledger of document 01 without the shares of document 02
+    // 18,760 bytes are a ledger of document 01, and 25,928 one with shares and no amendments
     for length in [
         0,
         1,
         7,
         8,
-        328,
-        353,
+        584,
+        609,
         18_760,
+        25_928,
         LEDGER_LENGTH - 25,
         LEDGER_LENGTH - 1,
     ] {
@@ -163,7 +175,7 @@ fn start_takes_any_bytes_of_the_length_and_no_other() {
     assert_eq!(calls::start(&mut bytes, 1), Ok([0; 3]));
     assert_eq!(bytes[0], 0x80);
     assert!(bytes[1..].iter().all(|&byte| byte == 0));
-    for length in [0, 18_760, LEDGER_LENGTH - 1, LEDGER_LENGTH + 1] {
+    for length in [0, 18_760, 25_928, LEDGER_LENGTH - 1, LEDGER_LENGTH + 1] {
         let mut bytes = vec![255; length];
         // An unknown territory is number 6, which comes after number 2.
         let number = calls::start(&mut bytes, 2).map_err(|refusal| refusal.number());

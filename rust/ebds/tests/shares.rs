@@ -277,7 +277,7 @@ fn a_qhs_share_has_its_minimum_on_every_day() -> Result<(), Refusal> {
 fn the_etii_share_stands_before_the_qhs_share() -> Result<(), Refusal> {
     let ledger = ledger_of(april(400, 350))?;
     let mut bytes = [0; 8];
-    bytes.copy_from_slice(&ledger.as_bytes()[334..342]);
+    bytes.copy_from_slice(&ledger.as_bytes()[590..598]);
     let bits = u64::from_be_bytes(bytes);
     assert_eq!(bits, (1_000 % 64) << 58 | 400 << 31 | 350 << 4);
     Ok(())

@@ -123,17 +123,32 @@ fn a_full_ledger_takes_no_row_until_one_is_cancelled() {
     );
 }
 
-#[test]
-fn a_missing_price_is_found_before_a_full_ledger() {
-    // contract 63 gives its rows to contract 62 and is variable; the price of April 2023 isn't published
-    let mut input = full_ledger().replace("open 63 1 2 0 0", "open 63 1 1 0 0");
+/// A full ledger whose contract 63 gives its rows to contract 62 and is opened by this line, without a certificate.
+fn full_ledger_without_rows_of_63(opened: &str) -> String {
+    let mut input = full_ledger().replace("open 63 1 2 0 0\ncert 63 2 511", opened);
     for day in 792..808 {
         input = input.replace(
             &format!("bill 63 {day} {day} "),
             &format!("bill 62 {} {} ", day + 16, day + 16),
         );
     }
-    input += "bill 0 600 600 1 1 1 0 0\nbill 63 486 486 1 1 0 0 0\n";
+    input
+}
+
+/// The price of April 2023 isn't published for the variable contract 63.
+#[test]
+fn a_missing_price_is_found_before_a_full_ledger() {
+    let input = full_ledger_without_rows_of_63("open 63 1 1 0 0")
+        + "bill 0 600 600 1 1 1 0 0\nbill 63 486 486 1 1 0 0 0\n";
     let printed = printed(input.as_bytes());
     assert!(printed.ends_with(b"9934990 993499000000000\nrefused 12\nrefused 11\n"));
+}
+
+/// The fixed contract 63 has the original end 600. It may still be amended while the ledger is full.
+#[test]
+fn a_span_across_the_original_end_is_found_before_a_full_ledger() {
+    let input = full_ledger_without_rows_of_63("open 63 1 0 0 0")
+        + "amend 63 600 0 0\nprice 852 20000\nbill 63 600 601 1 1 0 0 0\nbill 63 600 600 1 1 0 0 0\n";
+    let printed = printed(input.as_bytes());
+    assert!(printed.ends_with(b"9934990 993499000000000\nok\nok\nrefused 17\nrefused 12\n"));
 }

@@ -1,8 +1,8 @@
-//! Document 01, "Turned down, in checking order", with numbers 14 and 15 of document 02, papers 1 and 2: each number that the program
+//! Document 01, "Turned down, in checking order", with numbers 14 to 18 of document 02, papers 1, 2 and 5: each number that the program
 //! can meet, and for each pair of neighbouring tests a line that fails both, which the earlier test turns down. The program's own ledger
 //! and book never meet numbers 2 and 3; the tests of the package `ebds` do.
 
-use program::expect;
+use program::{expect, expect_lines};
 
 /// Contract 0 flexible electricity, with a bill of days 486 to 515; contract 1 variable gas, with no price published.
 const OPENED: &str = "open 0 0 2 0 0\nbill 0 486 515 1 1 1 0 0\nopen 1 1 1 0 0\n";
@@ -62,6 +62,29 @@ fn number_1_the_shares_of_a_bill() {
     }
 }
 
+/// An amend of none, three and five numbers, and with a day that can't be read.
+#[test]
+fn number_1_the_numbers_of_an_amendment() {
+    refused(
+        1,
+        &[
+            "amend",
+            "amend 0",
+            "amend 0 668 540",
+            "amend 0 668 540 545 0",
+            "amend 0 668 540 545 ",
+            "amend 0 668  540 545",
+            "amend 0 668 540 0545",
+            "amend 0 668 540 -1",
+            "amend 0 4294967296 540 545",
+            "amend 0 668 4294967296 545",
+            "amend 0 668 540 4294967296",
+            "Amend 0 668 540 545",
+            "amends 0 668 540 545",
+        ],
+    );
+}
+
 #[test]
 fn number_4_the_contract_number() {
     refused(
@@ -73,6 +96,8 @@ fn number_4_the_contract_number() {
             "cert 64 1 486",
             "cancel 64 486",
             "report 64",
+            "amend 64 668 540 545",
+            "amend 4294967295 668 540 545",
         ],
     );
 }
@@ -88,8 +113,29 @@ fn number_5_open_already_or_not_open() {
             "cert 63 1 486",
             "cancel 63 486",
             "report 63",
+            "amend 63 668 540 545",
         ],
     );
+}
+
+/// Flexible, variable and index contracts, and an amended one.
+#[test]
+fn number_16_not_fixed_or_amended_already() {
+    refused(16, &["amend 0 668 540 545", "amend 1 668 540 545"]);
+    expect_lines(&[
+        "start 1: ok",
+        "open 2 0 3 0 0: ok",
+        "amend 2 668 540 545: refused 16",
+        "open 3 0 0 300 290: ok",
+        "amend 3 668 540 545: ok",
+        "amend 3 668 540 545: refused 16",
+        "amend 3 851 0 0: refused 16",
+        // a certificate leaves the amendment
+        "cert 3 1 486: ok 0 0",
+        "amend 3 668 540 545: refused 16",
+        "cert 3 0 0: ok 0 0",
+        "amend 3 668 540 545: refused 16",
+    ]);
 }
 
 #[test]
@@ -222,6 +268,70 @@ fn fixed_and_flexible_spans_of_two_months_are_taken() {
             expect_span(&opened, span, 0);
         }
     }
+}
+
+/// The reply to an amendment of a fixed contract, 2, without rows.
+fn reply_to_amend(numbers: &str) -> String {
+    last_reply(&format!("open 2 0 0 300 290\namend 2 {numbers}\n"))
+}
+
+#[test]
+fn number_7_the_days_of_an_amendment() {
+    for (day, of_scheme, of_table) in [
+        ("0", "refused 7", "ok"),
+        ("485", "refused 7", "ok"),
+        ("486", "ok", "ok"),
+        ("851", "ok", "ok"),
+        ("852", "refused 7", "refused 7"),
+        ("4294967295", "refused 7", "refused 7"),
+    ] {
+        assert_eq!(reply_to_amend(&format!("{day} 540 545")), of_scheme);
+        assert_eq!(reply_to_amend(&format!("668 {day} 545")), of_table);
+        assert_eq!(reply_to_amend(&format!("668 540 {day}")), of_table);
+    }
+}
+
+/// Bills and rebills that start on or before day 668 and end after it, and those that don't.
+#[test]
+fn number_17_a_span_across_the_original_end() {
+    let amended = "price 300 20000\nprice 540 20000\nopen 1 0 0 300 290\namend 1 668 540 545\n";
+    for (span, number) in [
+        ((486, 668), 0),
+        ((668, 668), 0),
+        ((669, 669), 0),
+        ((669, 851), 0),
+        ((668, 669), 17),
+        ((486, 669), 17),
+        ((486, 851), 17),
+    ] {
+        expect_span(amended, span, number);
+    }
+    let at_ends = [
+        (486, (486, 487), 17),
+        (486, (487, 851), 0),
+        (851, (486, 851), 0),
+    ];
+    for (end, span, number) in at_ends {
+        let amended = amended.replace("668", &end.to_string());
+        expect_span(&amended, span, number);
+    }
+}
+
+/// Rows of days 600 to 629 and 700 to 729.
+#[test]
+fn number_18_a_row_that_ends_after_the_end_given() {
+    expect_lines(&[
+        "price 300 20000: ok",
+        "open 2 0 0 300 290: ok",
+        "bill 2 600 629 10 20000 0 0 0: ok 20000 0 0",
+        "bill 2 700 729 10 20000 0 0 0: ok 20000 0 0",
+        "amend 2 486 540 545: refused 18",
+        "amend 2 629 540 545: refused 18",
+        "amend 2 728 540 545: refused 18",
+        "cancel 2 700: ok 0",
+        "amend 2 628 540 545: refused 18",
+        "amend 2 629 540 545: ok",
+    ]);
 }
 
 #[test]
@@ -403,6 +513,45 @@ fn the_earlier_test_turns_a_line_down() {
         b"price 1716 11050\nopen 1 1 1 0 0\nbill 1 486 515 1 20000 0 0 0\nprice 1716 0\nbill 1 515 515 1 20000 0 0 0\nrebill 1 486 515 1 20000 0 0 0\n",
         &["ok", "ok", "ok 11050 3500 3500", "ok", "refused 10", "refused 11"],
     );
+}
+
+/// Each line fails its test and the later ones of its call.
+#[test]
+fn the_earlier_test_turns_an_amendment_or_a_span_across_its_end_down() {
+    expect_lines(&[
+        "price 300 20000: ok",
+        "open 0 0 2 0 0: ok",
+        "open 2 0 0 300 290: ok",
+        "bill 2 600 668 10 20000 0 0 0: ok 20000 0 0",
+        "amend 64 485 852 852: refused 4",
+        "amend 3 485 852 852: refused 5",
+        "amend 0 485 852 852: refused 16",
+        "amend 2 485 540 545: refused 7",
+        "amend 2 667 852 545: refused 7",
+        "amend 2 667 540 852: refused 7",
+        "amend 2 667 540 545: refused 18",
+        "amend 2 668 540 545: ok",
+        "amend 2 485 852 852: refused 16",
+        "price 300 0: ok",
+        // 7 before 17; 17 before 8, 14, 10 and 11
+        "bill 2 668 852 10 20000 0 0 0: refused 7",
+        "bill 2 485 669 10 20000 0 0 0: refused 7",
+        "bill 2 668 669 100000001 20000 0 0 0: refused 17",
+        "bill 2 668 669 10 20000 1 0 0: refused 17",
+        "bill 2 668 669 10 20000 0 11 0: refused 17",
+        "bill 2 668 669 10 20000 0 0 0: refused 17",
+        "bill 2 668 668 10 20000 0 0 0: refused 10",
+        "bill 2 599 669 10 20000 0 0 0: refused 17",
+        "bill 2 599 599 10 20000 0 0 0: refused 11",
+        // and before 9
+        "rebill 2 668 852 10 20000 0 0 0: refused 7",
+        "rebill 2 668 669 100000001 20000 0 0 0: refused 17",
+        "rebill 2 668 669 10 20000 0 11 0: refused 17",
+        "rebill 2 668 669 10 20000 0 0 0: refused 17",
+        "rebill 2 668 668 10 20000 0 0 0: refused 9",
+        "rebill 2 600 669 10 20000 0 0 0: refused 17",
+        "rebill 2 600 668 10 20000 0 0 0: refused 11",
+    ]);
 }
 
 #[test]

@@ -1,9 +1,12 @@
-//! The bytes of ledgers as the C library left them when it had papers 1 and 2 alone. The contracts
-//! are of electricity, but for one of gas.
+//! The bytes of ledgers as the C library left them when it had papers 1 and 2 alone, and the same
+//! facts in the present layout. The contracts are of electricity, but for one of gas.
 
 use crate::{span, AT_31_980, AT_40_000};
-use ebds::{BillNumbers, LEDGER_LENGTH};
+use ebds::BillNumbers;
 use std::ops::Range;
+
+/// The length of a ledger then.
+const STORED_LENGTH: usize = 25_928;
 
 /// The bytes of a ledger that aren't zeros, in hexadecimal.
 pub struct Stored {
@@ -15,20 +18,37 @@ pub struct Stored {
 }
 
 impl Stored {
-    /// The ledger: 8 bytes of header, contracts of 5 bytes and rows of 25.
+    /// The ledger in the present layout.
     pub fn bytes(&self) -> Vec<u8> {
+        widened(&self.stored_bytes())
+    }
+
+    /// The ledger as it was left: 8 bytes of header, contracts of 5 bytes and rows of 25.
+    pub fn stored_bytes(&self) -> Vec<u8> {
         let header = [(0, self.header)].into_iter();
         let contracts = self.contracts.iter();
         let contracts = contracts.map(|&(number, contract)| (8 + 5 * number, contract));
         let rows = self.rows.iter().enumerate();
         let rows = rows.map(|(place, &row)| (328 + 25 * place, row));
-        let mut ledger = vec![0; LEDGER_LENGTH];
+        let mut ledger = vec![0; STORED_LENGTH];
         for (begins, hexadecimal) in header.chain(contracts).chain(rows) {
             let bytes = bytes_of(hexadecimal);
             ledger[begins..begins + bytes.len()].copy_from_slice(&bytes);
         }
         ledger
     }
+}
+
+/// A ledger as it was left, with four zero bytes after each contract: it is then an unamended one of
+/// 9 bytes.
+fn widened(stored: &[u8]) -> Vec<u8> {
+    let (header, rest) = stored.split_at(8);
+    let (contracts, rows) = rest.split_at(64 * 5);
+    let contracts = contracts
+        .chunks(5)
+        .map(|contract| [contract, &[0; 4]].concat());
+    let contracts: Vec<u8> = contracts.flatten().collect();
+    [header, &contracts, rows].concat()
 }
 
 /// The bytes of hexadecimal digits, two a byte.
@@ -42,7 +62,7 @@ fn bytes_of(hexadecimal: &str) -> Vec<u8> {
 /// Where the last eight bytes of a row stand: the last 12 bits of S, the amount of 50 bits and two
 /// zero bits.
 fn end_of_row(place: usize) -> Range<usize> {
-    let end = 328 + 25 * (place + 1);
+    let end = 584 + 25 * (place + 1);
     end - 8..end
 }
 

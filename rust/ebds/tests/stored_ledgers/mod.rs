@@ -1,5 +1,6 @@
-//! Ledgers stored before document 02's paper 3: one with an amount that differs by day is number 2
-//! to every call, and any other is taken as before.
+//! Ledgers stored before document 02's papers 3 and 5: their bytes are number 2 to every call for
+//! their length. With the same facts in the present layout, one with an amount that differs by day is
+//! number 2 to every call, and any other is taken as before.
 
 mod bytes;
 
@@ -45,6 +46,13 @@ fn expect_not_well_formed(ledger: &[u8], bill: BillNumbers, description: &str) {
         assert_eq!(answer, not_well_formed, "call {place}, {description}");
         assert!(left == ledger, "call {place}, {description}");
     }
+}
+
+/// Every amount is right by day, so that the length alone is wrong.
+#[test]
+fn the_bytes_of_the_earlier_layout_are_number_2() {
+    let stored = WITHOUT_CHANGES.stored_bytes();
+    expect_not_well_formed(&stored, AT_31_980, "25,928 bytes");
 }
 
 #[test]
@@ -150,7 +158,7 @@ fn a_ledger_without_changes_inside_takes_each_call() -> Result<(), Refusal> {
     Ok(())
 }
 
-/// The calls that made that ledger make the same bytes now.
+/// The calls that made that ledger leave the same facts now.
 #[test]
 fn a_ledger_without_changes_inside_is_made_as_before() -> Result<(), Refusal> {
     let mut book = [0; BOOK_LENGTH];
