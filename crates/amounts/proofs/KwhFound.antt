@@ -103,17 +103,20 @@ module _ (terms : Terms) (bill : Bill) (ok : Rateable bill) where
       whole = omega arith;
     }
 
-    pub kwh-qhs : (day before new : ℕ) → terms .certificate ≡ Qhs day → before ≡ kwhBefore bill (bill .kwh) day → new ≡ withNewMinimum (terms .kind) bill (bill .kwh) day
+    pub kwh-qhs : (day before new : ℕ) → terms .certificate ≡ Qhs day → before ≡ kwhBefore bill (bill .kwh) day → (kind : Kind) → kind ≡ terms .kind → new ≡ withNewMinimum kind bill (bill .kwh) day
         → KwhOf terms bill (found before 0 (bill .kwh - before - new) new)
-    kwh-qhs day before new e is is-new = record {
+    kwh-qhs day before new e is kind taken by-kind = let is-new = by-kind ∙ ap (λ (k : Kind). withNewMinimum k bill (bill .kwh) day) taken in record {
       priced = λ price. under price (Qhs day) e ∙ share-qhs price (terms .kind) bill (bill .kwh) (ok .days) day ∙ rw (sym is, sym is-new) (omega arith);
       whole = omega (arith, is, is-new, new-most (terms .kind) bill (bill .kwh) day (ok .days));
     }
 
-  pub kwh-shares : hasShares bill ≡ true → (new : ℕ) → new ≡ withNewMinimum (terms .kind) bill (bill .qhs) 0
+  pub kwh-shares : hasShares bill ≡ true → (new : ℕ) (kind : Kind) → kind ≡ terms .kind → new ≡ withNewMinimum kind bill (bill .qhs) 0
       → KwhOf terms bill (found (bill .kwh - (bill .etii + bill .qhs)) (bill .etii) (bill .qhs - new) new)
-  kwh-shares some new is = record { priced = priced; whole = omega (arith, ok .shares, is, new-most (terms .kind) bill (bill .qhs) 0 (ok .days)) }
+  kwh-shares some new kind taken by-kind = record { priced = priced; whole = omega (arith, ok .shares, is, new-most (terms .kind) bill (bill .qhs) 0 (ok .days)) }
     where
+      is : new ≡ withNewMinimum (terms .kind) bill (bill .qhs) 0
+      is = by-kind ∙ ap (λ (k : Kind). withNewMinimum k bill (bill .qhs) 0) taken
+
       from-0 : (k : ℕ) → kwhBefore bill k 0 ≡ 0
       from-0 k = before-first k (daysOf bill) (bill .first) 0 (omega arith)
 

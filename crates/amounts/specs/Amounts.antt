@@ -1,5 +1,5 @@
--- Document 02, papers 1 and 3: a bill's shares; and over them, by day, the bill's amount and cap; the rate that it answers. All in ticks.
--- Assumes nothing.
+-- Document 02, papers 1 and 3: a bill's shares; and over them, by day, the bill's amount and cap; the rate that it answers; paper 5: all three
+-- under its contract. All in ticks. Assumes nothing.
 use mathlib.Core.Bool.{Bool, not, cond, _||_}
 use mathlib.Core.List.{List, [], _∷_}
 use Prim.Native.Nat.{ℕ, suc, _+_, _-_, _≤_}
@@ -9,7 +9,9 @@ use Rattle.basics.specs.Lists.{total}
 use Rattle.rates.specs.declared.Kind.{Kind}
 use Rattle.rates.specs.declared.Certificate.{Certificate}
 use Rattle.rates.specs.declared.Certificate.the-variants.{None, Etii, Qhs}
+use Rattle.rates.specs.declared.Contract.{Contract}
 use Rattle.rates.specs.declared.Terms.{Terms}
+use Rattle.rates.specs.TermsTaken.{termsFor}
 use Rattle.rates.specs.declared.Class.{Class}
 use Rattle.rates.specs.Rates.{classRate, classCap, certifiedClass}
 use Rattle.amounts.specs.declared.Bill.{Bill}
@@ -68,6 +70,10 @@ cap terms bill = billAt (capOf terms bill) terms bill
 -- "The rate answered is that of the first day", of the rest
 unfoldable pub rate : Terms → Bill → ℕ
 rate terms bill = rateOf terms bill (certifiedClass (restCertificate terms bill) (terms .kind) (bill .first))
+
+-- a figure of a bill under its contract: by the terms that it takes, "chosen by its first day"
+abbrev pub byTerms : (Terms → Bill → ℕ) → Contract → Bill → ℕ
+byTerms figure contract bill = figure (termsFor contract (bill .first)) bill
 
 -- a bill whose days, kWh, shares and S keep the ranges of a row, so that its amount fits
 pub record Rateable (bill : Bill) : Type 0 where

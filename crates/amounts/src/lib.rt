@@ -2,19 +2,22 @@
 use limits::NEW_MINIMUM_DAY;
 use rates::Certificate;
 use rates::Class;
+use rates::Contract;
 use rates::Fuel;
 use rates::Kind;
-use rates::Terms;
 use rates::class_of;
 use rates::class_rate;
 use rates::greater;
+use rates::kind_taken;
+use rates::terms_for;
 ghost use mathlib.Core.Path.{_≡_};
 ghost use mathlib.Core.Bool.{true, false};
 ghost use Prim.Native.Nat.{_+_, _*_, _≤_};
 ghost use lib.Dec.{eqb};
 ghost use Rattle.limits.specs.Limits.{mostKwhStored, highestPrice};
 ghost use Rattle.rates.specs.Rates.{classRate};
-ghost use Rattle.amounts.specs.Amounts.{hasShares, amount, rate, Rateable};
+ghost use Rattle.rates.specs.TermsTaken.{termsFor};
+ghost use Rattle.amounts.specs.Amounts.{hasShares, amount, rate, byTerms, Rateable};
 ghost use Rattle.amounts.specs.KwhFound.{Spreadable, kwhBefore, withNewMinimum, KwhOf};
 
 // A bill: its contract's number, first and last day, kWh, of these the kWh in the ETII share and in the QHS share, and the reference and
@@ -49,16 +52,16 @@ pub fn has_shares(bill: Bill) -> bool
 }
 
 // The rate that a bill answers, in ticks: that of its first day, and with shares the baseline one.
-pub fn rate(terms: Terms, bill: Bill) -> u64
-    ensures { λ r. ⌜ r ≡ rate terms bill ⌝ }
+pub fn rate(contract: Contract, bill: Bill) -> u64
+    ensures { λ r. ⌜ r ≡ byTerms rate contract bill ⌝ }
 {
-    let fuel = terms.fuel;
+    let fuel = contract.fuel;
     if has_shares(bill) {
         return class_rate(fuel, Class::Baseline, bill.reference, bill.supply);
     }
     class_rate(
         fuel,
-        class_of(terms, bill.first),
+        class_of(terms_for(contract, bill.first), bill.first),
         bill.reference,
         bill.supply,
     )
@@ -90,13 +93,21 @@ fn with_new_minimum(kind: Kind, bill: Bill, kwh: u64, day: u32) -> u64
     kwh - kwh_before(bill, kwh, greater(day, NEW_MINIMUM_DAY))
 }
 
-// The kWh in each class of a bill without shares: all of it is under the terms' certificate.
-fn whole_by_class(terms: Terms, bill: Bill) -> KwhByClass
-    requires { ⌜ Rateable bill × (hasShares bill ≡ false) ⌝ }
-    ensures { λ r. ⌜ KwhOf terms bill r ⌝ }
+// The kind, with its days, that a bill takes of its contract. Only a QHS minimum asks for it.
+fn kind_of_bill(contract: Contract, bill: Bill) -> Kind
+    ensures { λ r. ⌜ r ≡ termsFor contract (bill .first) .kind ⌝ }
 {
-    let certificate = terms.certificate;
-    let kind = terms.kind;
+    let kind = contract.kind;
+    let amendment = contract.amendment;
+    kind_taken(amendment, kind, bill.first)
+}
+
+// The kWh in each class of a bill without shares: all of it is under its contract's certificate.
+fn whole_by_class(contract: Contract, bill: Bill) -> KwhByClass
+    requires { ⌜ Rateable bill × (hasShares bill ≡ false) ⌝ }
+    ensures { λ r. ⌜ KwhOf (termsFor contract (bill .first)) bill r ⌝ }
+{
+    let certificate = contract.certificate;
     let kwh = bill.kwh as u64;
     match certificate {
         Certificate::None => KwhByClass {
@@ -116,7 +127,7 @@ fn whole_by_class(terms: Terms, bill: Bill) -> KwhByClass
         }
         Certificate::Qhs { effective_day } => {
             let before = kwh_before(bill, kwh, effective_day);
-            let new = with_new_minimum(kind, bill, kwh, effective_day);
+            let new = with_new_minimum(kind_of_bill(contract, bill), bill, kwh, effective_day);
             KwhByClass {
                 baseline: before,
                 etii: 0,
@@ -128,13 +139,12 @@ fn whole_by_class(terms: Terms, bill: Bill) -> KwhByClass
 }
 
 // The kWh in each class of a bill with shares: the rest, which is baseline, the ETII share, and the QHS share, whose minimum may change inside.
-fn shares_by_class(terms: Terms, bill: Bill) -> KwhByClass
+fn shares_by_class(contract: Contract, bill: Bill) -> KwhByClass
     requires { ⌜ Rateable bill × (hasShares bill ≡ true) ⌝ }
-    ensures { λ r. ⌜ KwhOf terms bill r ⌝ }
+    ensures { λ r. ⌜ KwhOf (termsFor contract (bill .first)) bill r ⌝ }
 {
-    let kind = terms.kind;
     let qhs = bill.qhs as u64;
-    let new = with_new_minimum(kind, bill, qhs, 0);
+    let new = with_new_minimum(kind_of_bill(contract, bill), bill, qhs, 0);
     KwhByClass {
         baseline: (bill.kwh - (bill.etii + bill.qhs)) as u64,
         etii: bill.etii as u64,
@@ -155,11 +165,11 @@ fn at_rate(fuel: Fuel, bill: Bill, class: Class, kwh: u64) -> u64
 }
 
 // The amount of a bill, of which the kWh in each class are known: each at the rate of its class.
-fn at_rates(terms: Terms, bill: Bill, kwh: KwhByClass) -> u64
-    requires { ⌜ Rateable bill × KwhOf terms bill kwh ⌝ }
-    ensures { λ r. ⌜ r ≡ amount terms bill ⌝ }
+fn at_rates(contract: Contract, bill: Bill, kwh: KwhByClass) -> u64
+    requires { ⌜ Rateable bill × KwhOf (termsFor contract (bill .first)) bill kwh ⌝ }
+    ensures { λ r. ⌜ r ≡ byTerms amount contract bill ⌝ }
 {
-    let fuel = terms.fuel;
+    let fuel = contract.fuel;
     let baseline = at_rate(fuel, bill, Class::Baseline, kwh.baseline);
     let etii = at_rate(fuel, bill, Class::Etii, kwh.etii);
     let old = at_rate(fuel, bill, Class::QhsOld, kwh.old);
@@ -168,32 +178,32 @@ fn at_rates(terms: Terms, bill: Bill, kwh: KwhByClass) -> u64
 }
 
 // A bill's amount, in ticks.
-pub fn amount(terms: Terms, bill: Bill) -> u64
+pub fn amount(contract: Contract, bill: Bill) -> u64
     requires { ⌜ Rateable bill ⌝ }
-    ensures { λ r. ⌜ r ≡ amount terms bill ⌝ }
+    ensures { λ r. ⌜ r ≡ byTerms amount contract bill ⌝ }
 {
     if has_shares(bill) {
-        return at_rates(terms, bill, shares_by_class(terms, bill));
+        return at_rates(contract, bill, shares_by_class(contract, bill));
     }
-    at_rates(terms, bill, whole_by_class(terms, bill))
+    at_rates(contract, bill, whole_by_class(contract, bill))
 }
 
 // The amount of a bill without shares. A certificate asks it of such rows of its contract and is its one caller: LLVM inlines a function
 // with one caller whatever its size, and `amount` has several.
-pub fn whole_amount(terms: Terms, bill: Bill) -> u64
+pub fn whole_amount(contract: Contract, bill: Bill) -> u64
     requires { ⌜ Rateable bill × (hasShares bill ≡ false) ⌝ }
-    ensures { λ r. ⌜ r ≡ amount terms bill ⌝ }
+    ensures { λ r. ⌜ r ≡ byTerms amount contract bill ⌝ }
 {
-    at_rates(terms, bill, whole_by_class(terms, bill))
+    at_rates(contract, bill, whole_by_class(contract, bill))
 }
 
 // Whether a bill's amount is the one given. The check asks it of every row and is its one caller, too.
-pub fn is_amount(terms: Terms, bill: Bill, given: u64) -> bool
+pub fn is_amount(contract: Contract, bill: Bill, given: u64) -> bool
     requires { ⌜ Rateable bill ⌝ }
-    ensures { λ r. ⌜ r ≡ eqb given (amount terms bill) ⌝ }
+    ensures { λ r. ⌜ r ≡ eqb given (byTerms amount contract bill) ⌝ }
 {
     if has_shares(bill) {
-        return given == at_rates(terms, bill, shares_by_class(terms, bill));
+        return given == at_rates(contract, bill, shares_by_class(contract, bill));
     }
-    given == at_rates(terms, bill, whole_by_class(terms, bill))
+    given == at_rates(contract, bill, whole_by_class(contract, bill))
 }

@@ -11,17 +11,15 @@ use Rattle.records.specs.Edits.{insertAt, removeAt, replaceAt, onPart}
 use Rattle.records.specs.OneSlot.{recordBytes}
 use Rattle.records.proofs.Scan.{recordOf}
 use Rattle.rates.specs.declared.Contract.{Contract}
-use Rattle.rates.specs.declared.Terms.{Terms}
 use Rattle.rates.specs.TermsTaken.{termsFor}
 use Rattle.amounts.specs.declared.Bill.{Bill}
-use Rattle.amounts.specs.Amounts.{rate, amount, Rateable}
+use Rattle.amounts.specs.Amounts.{rate, amount, Rateable, byTerms}
 use Rattle.amounts.proofs.AmountBounds.{amount-bits}
 use Rattle.model.specs.declared.Row.{Row}
 use Rattle.model.specs.declared.Answer.the-variants.{Billed, Rebilled, Cancelled}
 use Rattle.model.specs.Contracts.{Contracts}
 use Rattle.model.specs.Calls.{named}
 use Rattle.model.specs.Ledger.{comesAfter, sortsAfter, amountOf, priced, withRows}
-use Rattle.model.specs.PresentRules.{byTerms}
 use Rattle.model.specs.WellFormed.{RowOk}
 use Rattle.model.proofs.PresentRules.{bill-ranges}
 use Rattle.model.proofs.Places.{place-le, insert-at, remove-at, replace-at, amount-at}
@@ -48,39 +46,36 @@ module _ (cs : Contracts) (k : Contract) (x : Bill) (ok : RowOk rules cs (priced
   unfolding priced
   row-rateable = bill-ranges _ x (ok .ranges) .rateable
 
-  module _ (terms : Terms) (taken : terms ≡ termsFor k (x .first)) (a : ℕ) (e : a ≡ amount terms x) where
-    is-amount : a ≡ byTerms amount k x
-    is-amount = e ∙ ap (λ (t : Terms). amount t x) taken
-
+  module _ (a : ℕ) (e : a ≡ byTerms amount k x) where
     is-priced : made x a ≡ priced rules k x
     unfolding priced
-    is-priced = ap (made x) is-amount
+    is-priced = ap (made x) e
 
     made-fits : Fit (rowRecord .widths) (rowRecord .values (made x a))
     made-fits = subst (λ (y : Row). Fit (rowRecord .widths) (rowRecord .values y)) (sym is-priced) (row-fits cs (priced rules k x) ok)
 
     pub new-amount-low : a < 2 ^ 62
-    new-amount-low = omega (arith, e, amount-bits terms x row-rateable)
+    new-amount-low = omega (arith, e, amount-bits (termsFor k (x .first)) x row-rateable)
 
 searched-length : (b : List ℕ) (rows : ℕ) → Searched b rows → length b ≡ ledgerLength
 searched-length b rows s = formed-length b (s .formed)
 
 -- ---- a row that is added
 
-module _ (b : List ℕ) (rows place : ℕ) (k : Contract) (x : Bill) (new : NewRow b rows place k x) (terms : Terms) (taken : terms ≡ termsFor k (x .first)) (a : ℕ) (e : a ≡ amount terms x) where
+module _ (b : List ℕ) (rows place : ℕ) (k : Contract) (x : Bill) (new : NewRow b rows place k x) (a : ℕ) (e : a ≡ byTerms amount k x) where
   place-inside : place ≤ rows
   place-inside = omega (arith, new .at, new .searched .count, place-le (comesAfter (x .contract) (x .first)) (facts b .rows))
 
   pub insertable : Insertable b rows place (made x a)
-  insertable = record { long = searched-length b rows (new .searched); inside = place-inside; room = new .room; fits = made-fits (contracts b) k x (new .row) terms taken a e }
+  insertable = record { long = searched-length b rows (new .searched); inside = place-inside; room = new .room; fits = made-fits (contracts b) k x (new .row) a e }
 
-  pub row-added : (r : ℕ) → r ≡ rate terms x → (after : List ℕ) → after ≡ onPart firstRow (rowStart (rows + 1)) (insertAt (place * rowLength) (recordBytes rowRecord (made x a))) b
+  pub row-added : (r : ℕ) → r ≡ byTerms rate k x → (after : List ℕ) → after ≡ onPart firstRow (rowStart (rows + 1)) (insertAt (place * rowLength) (recordBytes rowRecord (made x a))) b
       → Changed (Billed (x .reference) r a) after (billed k x) (rowAdded (facts b) k x)
   unfolding priced sortsAfter
   row-added r at-rate after put = record {
-    answered = ap₂ (Billed (x .reference)) (at-rate ∙ ap (λ (t : Terms). rate t x) taken) (is-amount (contracts b) k x (new .row) terms taken a e);
+    answered = ap₂ (Billed (x .reference)) at-rate e;
     left = inserted-row (facts b) b after (sym (repacked b (new .searched .formed))) rows place (priced rules k x) (sym (new .searched .count)) place-inside (new .room)
-        (put ∙ ap (λ (y : Row). onPart firstRow (rowStart (rows + 1)) (insertAt (place * rowLength) (recordBytes rowRecord y)) b) (is-priced (contracts b) k x (new .row) terms taken a e))
+        (put ∙ ap (λ (y : Row). onPart firstRow (rowStart (rows + 1)) (insertAt (place * rowLength) (recordBytes rowRecord y)) b) (is-priced (contracts b) k x (new .row) a e))
         ∙ ap (λ (xs : List Row). bytes (withRows (facts b) xs)) (rw (new .at) (sym (insert-at (priced rules k x) (facts b .rows))));
   }
 
@@ -116,18 +111,18 @@ module _ (b : List ℕ) (rows place c first : ℕ) (h : RowHeld b rows place c f
 
 -- ---- a row in place of another
 
-module _ (b : List ℕ) (rows place : ℕ) (k : Contract) (x : Bill) (again : RowAgain b rows place k x) (terms : Terms) (taken : terms ≡ termsFor k (x .first)) (a : ℕ) (e : a ≡ amount terms x) where
+module _ (b : List ℕ) (rows place : ℕ) (k : Contract) (x : Bill) (again : RowAgain b rows place k x) (a : ℕ) (e : a ≡ byTerms amount k x) where
   pub replaceable : Replaceable b place (made x a)
-  replaceable = let n = held-needs b rows place _ _ (again .old) in record { long = n .0; inside = n .1; fits = made-fits (contracts b) k x (again .row) terms taken a e }
+  replaceable = let n = held-needs b rows place _ _ (again .old) in record { long = n .0; inside = n .1; fits = made-fits (contracts b) k x (again .row) a e }
 
-  pub row-replaced : (r : ℕ) → r ≡ rate terms x → (old : Row) → old ≡ rowAt b place → (after : List ℕ) (z : ℤ) → after ≡ replaceAt (rowStart place) (recordBytes rowRecord (made x a)) b → z ≡ subℕ a (old .amount)
+  pub row-replaced : (r : ℕ) → r ≡ byTerms rate k x → (old : Row) → old ≡ rowAt b place → (after : List ℕ) (z : ℤ) → after ≡ replaceAt (rowStart place) (recordBytes rowRecord (made x a)) b → z ≡ subℕ a (old .amount)
       → Changed (Rebilled (x .reference) r z) after (rebilled (facts b) k x) (rowReplaced (facts b) k x)
   row-replaced r at-rate old read after z put change =
       let was = old-amount b rows place _ _ (again .old) old read in
       let low = inside b rows place _ _ (again .old) in
       record {
-        answered = ap₂ (Rebilled (x .reference)) (at-rate ∙ ap (λ (t : Terms). rate t x) taken) (change ∙ ap₂ subℕ (is-amount (contracts b) k x (again .row) terms taken a e) was);
+        answered = ap₂ (Rebilled (x .reference)) at-rate (change ∙ ap₂ subℕ e was);
         left = replaced-row (facts b) b after (sym (repacked b (again .old .searched .formed))) place (priced rules k x) low (rows-most present b (again .old .searched .formed))
-            (put ∙ ap (λ (y : Row). replaceAt (rowStart place) (recordBytes rowRecord y) b) (is-priced (contracts b) k x (again .row) terms taken a e))
+            (put ∙ ap (λ (y : Row). replaceAt (rowStart place) (recordBytes rowRecord y) b) (is-priced (contracts b) k x (again .row) a e))
             ∙ ap (λ (xs : List Row). bytes (withRows (facts b) xs)) (rw (again .old .at) (sym (replace-at (named (x .contract) (x .first)) (priced rules k x) (facts b .rows))));
       }

@@ -7,12 +7,11 @@ use lib.IntN.{subℕ}
 use Rattle.limits.specs.Limits.{rowCount}
 use Rattle.rates.specs.declared.Contract.{Contract}
 use Rattle.amounts.specs.declared.Bill.{Bill}
-use Rattle.amounts.specs.Amounts.{rate, amount}
+use Rattle.amounts.specs.Amounts.{rate, amount, byTerms}
 use Rattle.model.specs.declared.Answer.{Answer}
 use Rattle.model.specs.declared.Answer.the-variants.{Billed, Rebilled, Cancelled}
 use Rattle.model.specs.Calls.{named}
 use Rattle.model.specs.Ledger.{Ledger, comesAfter, insert, replace, remove, amountOf, priced, withRows}
-use Rattle.model.specs.PresentRules.{byTerms}
 use Rattle.model.specs.Places.{placeOf}
 use Rattle.model.specs.WellFormed.{RowOk}
 use Rattle.layout.specs.Present.{Searched, rules, facts, contracts, bytes}

@@ -6,7 +6,6 @@ use ledger::rows::row_at;
 use model::Answer;
 use model::Row;
 use rates::Contract;
-use rates::terms_for;
 use signed::difference;
 ghost use Rattle.layout.specs.Present.{facts};
 ghost use Rattle.bill_refusals.specs.Requests.{RowHeld};
@@ -23,15 +22,14 @@ pub fn add_row(
     requires { ⌜ NewRow (now ledger) rows place contract bill ⌝ }
     ensures { λ r. ⌜ Changed r (now (ledger .exit)) (billed contract bill) (rowAdded (facts (now (ledger .entry))) contract bill) ⌝ }
 {
-    let terms = terms_for(contract, bill.first);
     let row = Row {
         bill,
-        amount: amount(terms, bill),
+        amount: amount(contract, bill),
     };
     edits::insert_row(ledger, rows, place, row);
     Answer::Billed {
         reference: bill.reference,
-        rate: rate(terms, bill),
+        rate: rate(contract, bill),
         amount: row.amount,
     }
 }
@@ -47,16 +45,15 @@ pub fn replace_row(
     requires { ⌜ RowAgain (now ledger) rows place contract bill ⌝ }
     ensures { λ r. ⌜ Changed r (now (ledger .exit)) (rebilled (facts (now (ledger .entry))) contract bill) (rowReplaced (facts (now (ledger .entry))) contract bill) ⌝ }
 {
-    let terms = terms_for(contract, bill.first);
     let row = Row {
         bill,
-        amount: amount(terms, bill),
+        amount: amount(contract, bill),
     };
     let old = row_at(ledger, place);
     edits::replace_row(ledger, place, row);
     Answer::Rebilled {
         reference: bill.reference,
-        rate: rate(terms, bill),
+        rate: rate(contract, bill),
         change: difference(row.amount, old.amount),
     }
 }

@@ -10,13 +10,11 @@ use Rattle.records.specs.Edits.{replaceAt}
 use Rattle.records.specs.OneSlot.{recordBytes}
 use Rattle.records.proofs.Replaced.{replaced-same}
 use Rattle.rates.specs.declared.Contract.{Contract}
-use Rattle.rates.specs.declared.Terms.{Terms}
 use Rattle.rates.specs.TermsTaken.{termsFor}
-use Rattle.amounts.specs.Amounts.{hasShares, amount, Rateable}
+use Rattle.amounts.specs.Amounts.{hasShares, amount, Rateable, byTerms}
 use Rattle.amounts.proofs.AmountBounds.{amount-bits}
 use Rattle.model.specs.declared.Row.{Row}
 use Rattle.model.specs.Ledger.{withAmount, priced, rerated}
-use Rattle.model.specs.PresentRules.{byTerms}
 use Rattle.layout.specs.PresentLayout.{rowRecord}
 use Rattle.layout.specs.Offsets.{rowStart, rowLength}
 use Rattle.layout.specs.Present.{rowAt, rules}
@@ -72,16 +70,13 @@ module _ (b : List ℕ) (i contract : ℕ) (certified : Contract) (slot : RowInS
   pub shares-stay : (h : Bool) → h ≡ hasShares (x .bill) → h ≡ true → RowRerated contract certified b i (record { old = x .amount; new = x .amount; changed = 0 }) b
   shares-stay h e some = row-stays (rw read (sym (slot .set-aside (rw read at (sym e ∙ some)))))
 
-  -- its amount under the certified contract is a, by the terms of its first day
-  module _ (terms : Terms) (taken : terms ≡ termsFor certified (x .bill .first)) (a : ℕ) (is : a ≡ amount terms (x .bill)) where
-    rated : a ≡ byTerms amount certified (x .bill)
-    rated = is ∙ ap (λ (t : Terms). amount t (x .bill)) taken
-
+  -- its amount under the certified contract is a
+  module _ (a : ℕ) (rated : a ≡ byTerms amount certified (x .bill)) where
     pub amount-stays : a ≡ x .amount → RowRerated contract certified b i (record { old = x .amount; new = x .amount; changed = 0 }) b
     amount-stays same = row-stays (sym same ∙ rated)
 
     pub new-amount-low : a < 2 ^ 50
-    new-amount-low = omega (arith, is, amount-bits terms (x .bill) bill-rateable)
+    new-amount-low = omega (arith, rated, amount-bits (termsFor certified (x .bill .first)) (x .bill) bill-rateable)
 
     pub amount-changes : (a ≡ x .amount → ⊥) → (after : List ℕ) → after ≡ replaceAt (rowStart i) (recordBytes rowRecord (withAmount (rowAt b i) a)) b
         → RowRerated contract certified b i (record { old = x .amount; new = a; changed = 1 }) after

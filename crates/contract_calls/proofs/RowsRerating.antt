@@ -22,13 +22,12 @@ use Rattle.rates.specs.declared.Kind.{Kind}
 use Rattle.rates.specs.declared.Amendment.{Amendment}
 use Rattle.rates.specs.declared.Contract.{Contract}
 use Rattle.rates.specs.TermsTaken.{kindTaken, termsFor}
-use Rattle.amounts.specs.Amounts.{hasShares, amount}
+use Rattle.amounts.specs.Amounts.{hasShares, amount, byTerms}
 use Rattle.amounts.proofs.Shares.{amount-set-aside}
 use Rattle.amounts.proofs.AmountBounds.{highestAmount, amount-low}
 use Rattle.model.specs.declared.Row.{Row}
 use Rattle.model.specs.Contracts.{Contracts, contractAt}
 use Rattle.model.specs.Rules.{partOfDue}
-use Rattle.model.specs.PresentRules.{byTerms}
 use Rattle.model.specs.Ledger.{ofContract, withRows, rerated}
 use Rattle.model.specs.Places.{placeOf, reaches}
 use Rattle.model.specs.WellFormed.{RowOk}

@@ -11,13 +11,12 @@ use Rattle.basics.specs.Lists.{total, count}
 use Rattle.records.specs.Edits.{replaceAt}
 use Rattle.records.specs.OneSlot.{recordBytes, IsPacked}
 use Rattle.rates.specs.declared.Contract.{Contract}
-use Rattle.amounts.specs.Amounts.{hasShares, amount, Rateable}
+use Rattle.amounts.specs.Amounts.{hasShares, amount, Rateable, byTerms}
 use Rattle.model.specs.declared.Row.{Row}
 use Rattle.model.specs.declared.Call.{Call}
 use Rattle.model.specs.Calls.{_with_}
 use Rattle.model.specs.Rules.{refusal}
 use Rattle.model.specs.Contracts.{contractAt}
-use Rattle.model.specs.PresentRules.{byTerms}
 use Rattle.model.specs.Ledger.{ofContract, rerated, withRows}
 use Rattle.layout.specs.PresentLayout.{rowRecord}
 use Rattle.layout.specs.Offsets.{ledgerLength, rowStart, rowPart}

@@ -3,7 +3,6 @@ use edits::replace_amount;
 use ledger::rows::first_reaching;
 use ledger::rows::row_at;
 use rates::Contract;
-use rates::terms_for;
 ghost use Rattle.contract_calls.specs.Rerating.{Rerateable, RowInSlot, RowRerated, RowsRerated};
 
 // What re-rating finds: the sums of the old and of the new amounts, and how many of the amounts changed.
@@ -27,7 +26,7 @@ fn rerate_row(b: &mut [u8], i: usize, contract: u32, certified: Contract) -> Rer
             changed: 0,
         };
     }
-    let amount = amounts::whole_amount(terms_for(certified, bill.first), bill);
+    let amount = amounts::whole_amount(certified, bill);
     if amount == row.amount {
         return Rerated {
             old: row.amount,

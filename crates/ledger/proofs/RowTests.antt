@@ -13,14 +13,12 @@ use Rattle.records.specs.Slots.{allZero}
 use Rattle.records.specs.OneSlot.{slotNumbers, isTaken, recordIn, slotAt}
 use Rattle.records.proofs.OneSlot.{part-lent}
 use Rattle.rates.specs.declared.Contract.{Contract}
-use Rattle.rates.specs.declared.Terms.{Terms}
-use Rattle.rates.specs.TermsTaken.{termsFor}
-use Rattle.amounts.specs.Amounts.{amount, Rateable}
+use Rattle.amounts.specs.Amounts.{amount, Rateable, byTerms}
 use Rattle.model.specs.declared.Row.{Row}
 use Rattle.model.specs.Contracts.{contractIn, contractAt, isThere, isOpen}
 use Rattle.model.specs.Rules.{partOfDue}
 use Rattle.model.specs.Ledger.{comesAfter}
-use Rattle.model.specs.PresentRules.{billOk, byTerms}
+use Rattle.model.specs.PresentRules.{billOk}
 use Rattle.model.proofs.PresentRules.{bill-ranges}
 use Rattle.layout.specs.Layout.{rowOk}
 use Rattle.layout.specs.PresentLayout.{rowRecord}
@@ -108,8 +106,8 @@ module _ (slot : ContractSlot) (x : Row) where
     pub outside : not t ≡ true → false ≡ rowUnder slot x
     outside n = rw (e, sym ranges ∙ not-yes t n)
 
-    pub part-tested : not t ≡ false → (terms : Terms) → terms ≡ termsFor k (x .bill .first) → (r : Bool) → r ≡ eqb (x .amount) (amount terms (x .bill)) → r ≡ rowUnder slot x
-    part-tested y terms taken r f = rw (e, sym ranges ∙ not-no t y) (f ∙ ap (λ (u : Terms). eqb (x .amount) (amount u (x .bill))) taken)
+    pub part-tested : not t ≡ false → (r : Bool) → r ≡ eqb (x .amount) (byTerms amount k (x .bill)) → r ≡ rowUnder slot x
+    part-tested y r f = rw (e, sym ranges ∙ not-no t y) f
 
 -- ---- `follows`: the row comes after the one before it, and is as it must be
 

@@ -3,9 +3,9 @@ use mathlib.Core.Bool.{Bool, false, _&&_}
 use mathlib.Core.Option.{Option, none, some}
 use lib.Dec.{eqb}
 use Rattle.rates.specs.declared.Contract.{Contract}
-use Rattle.amounts.specs.Amounts.{amount}
+use Rattle.amounts.specs.Amounts.{amount, byTerms}
 use Rattle.model.specs.declared.Row.{Row}
-use Rattle.model.specs.PresentRules.{billOk, byTerms}
+use Rattle.model.specs.PresentRules.{billOk}
 use Rattle.ledger.specs.declared.contracts.ContractSlot.{ContractSlot}
 use Rattle.ledger.specs.declared.contracts.ContractSlot.the-variants.{Closed, Open}
 

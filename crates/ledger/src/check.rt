@@ -14,7 +14,6 @@ use limits::CONTRACT_COUNT;
 use limits::MOST_CLAIMS;
 use limits::ROW_COUNT;
 use model::Row;
-use rates::terms_for;
 ghost use mathlib.Core.Path.{_≡_};
 ghost use mathlib.Core.Bool.{cond, _&&_};
 ghost use Prim.Native.Nat.{_-_, _<_, _≤_};
@@ -87,8 +86,7 @@ fn row_ok(slot: ContractSlot, row: Row) -> bool
     if !rules::ranges::bill_ok(contract, bill) {
         return false;
     }
-    let terms = terms_for(contract, bill.first);
-    amounts::is_amount(terms, bill, row.amount)
+    amounts::is_amount(contract, bill, row.amount)
 }
 
 // A row is as it must be under what its contract's slot holds, and comes after day `last` of the contract with that number.

@@ -13,7 +13,7 @@ use Rattle.rates.specs.declared.Contract.{Contract}
 use Rattle.rates.specs.TermsTaken.{termsFor, crossesEnd}
 use Rattle.rates.proofs.TermsTaken.{on-or-before}
 use Rattle.amounts.specs.declared.Bill.{Bill}
-use Rattle.amounts.specs.Amounts.{Rateable, amount}
+use Rattle.amounts.specs.Amounts.{Rateable, amount, byTerms}
 use Rattle.amounts.proofs.AmountBounds.{amount-capped, amount-low}
 use Rattle.model.specs.Codes.{kindCode, isFixed, opening, certify, amend}
 use Rattle.model.specs.ContractNumbers.{numbersOfContract, contractOfNumbers, fuelIn, kindIn, priceFixDayIn, entryDayIn, classIn, effectiveDayIn, amendmentFlagIn, originalEndIn, amendedPriceFixDayIn, amendedEntryDayIn}
@@ -23,7 +23,7 @@ use Rattle.model.specs.declared.Request.{Request}
 use Rattle.model.specs.Calls.{CallWithBook, View, named, sharing, endsAfter, requestedBill, _with_}
 use Rattle.model.specs.Book.{reference}
 use Rattle.model.specs.Rules.{refusal}
-use Rattle.model.specs.PresentRules.{badBook, badNumber, notAmendable, badKind, badClass, badDays, badEffective, badAmendmentDays, badAmendment, badSpan, badAmounts, badShares, noPrice, tests, contractTests, contractRanges, contractOk, billTests, billOk, byTerms, presentRules}
+use Rattle.model.specs.PresentRules.{badBook, badNumber, notAmendable, badKind, badClass, badDays, badEffective, badAmendmentDays, badAmendment, badSpan, badAmounts, badShares, noPrice, tests, contractTests, contractRanges, contractOk, billTests, billOk, presentRules}
 use Rattle.model.proofs.Refusals.{fitsAt, numbered, clear}
 use Rattle.model.proofs.Codes.{fuel-code, kind-code, kind-days, class-code, class-day, amendment-numbers, fixed-code, not-amended}
 use Rattle.model.proofs.AcceptedBill.{span-begins, span-days, kind-low, kwh-low, supply-low, price-low}

@@ -11,10 +11,9 @@ use Rattle.basics.specs.Lists.{count}
 use Rattle.calendar.specs.Days.{schemeMonth}
 use Rattle.rates.specs.declared.Kind.{Kind}
 use Rattle.rates.specs.declared.Contract.{Contract}
-use Rattle.rates.specs.declared.Terms.{Terms}
-use Rattle.rates.specs.TermsTaken.{termsFor, crossesEnd}
+use Rattle.rates.specs.TermsTaken.{crossesEnd}
 use Rattle.amounts.specs.declared.Bill.{Bill}
-use Rattle.amounts.specs.Amounts.{rate, amount, cap}
+use Rattle.amounts.specs.Amounts.{rate, amount, cap, byTerms}
 use Rattle.model.specs.Codes.{isFixed, isFlexible, isMonthly, isAmended}
 use Rattle.model.specs.ContractNumbers.{numbersOfContract, fuelIn, kindIn, priceFixDayIn, entryDayIn, classIn, effectiveDayIn, amendmentFlagIn, originalEndIn, amendedPriceFixDayIn, amendedEntryDayIn}
 use Rattle.model.specs.Contracts.{contractAt, contractOf, isOpen}
@@ -167,11 +166,7 @@ billTests k b =
 unfoldable pub billOk : Contract → Bill → Bool
 billOk k b = every (billTests k b)
 
--- ---- the rules
-
--- a figure of a bill under its contract: by the terms that it takes
-abbrev pub byTerms : (Terms → Bill → ℕ) → Contract → Bill → ℕ
-byTerms figure k b = figure (termsFor k (b .first)) b
+-- ---- the rules: a bill's rate, amount and cap are those by the terms that it takes
 
 abbrev pub presentRules : Rules
 presentRules = record {

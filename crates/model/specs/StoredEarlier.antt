@@ -6,14 +6,14 @@ use Prim.Native.Nat.{ℕ}
 use Rattle.basics.specs.Lists.{All}
 use Rattle.rates.specs.declared.Terms.{Terms}
 use Rattle.amounts.specs.declared.Bill.{Bill}
-use Rattle.amounts.specs.Amounts.{amount}
+use Rattle.amounts.specs.Amounts.{amount, byTerms}
 use Rattle.amounts.specs.EarlierAmount.{earlierAmount}
 use Rattle.model.specs.declared.Row.{Row}
 use Rattle.model.specs.declared.Call.{Call}
 use Rattle.model.specs.Calls.{CallWithBook, _with_}
 use Rattle.model.specs.Contracts.{Contracts, contractOf}
 use Rattle.model.specs.Rules.{Rules}
-use Rattle.model.specs.PresentRules.{byTerms, presentRules}
+use Rattle.model.specs.PresentRules.{presentRules}
 use Rattle.model.specs.Ledger.{Ledger, withRows}
 use Rattle.model.specs.History.{stateAfter, ledgerMachine}
 use Rattle.model.specs.WellFormed.{WellFormed}

@@ -7,7 +7,7 @@ use limits::NEW_MINIMUM_DAY;
 ghost use mathlib.Core.Path.{_≡_};
 ghost use Prim.Native.Nat.{_-_, _≤_, min, max};
 ghost use Rattle.rates.specs.Prices.{pricesOf};
-ghost use Rattle.rates.specs.TermsTaken.{kindTaken, termsFor, crossesEnd};
+ghost use Rattle.rates.specs.TermsTaken.{kindTaken, termsFor};
 ghost use Rattle.rates.specs.Rates.{part, partOf, classRate, enteredEarly, qhsClass, classOf};
 
 // Fuel: 0 electricity, 1 gas.
@@ -200,7 +200,7 @@ pub fn class_of(terms: Terms, first: u32) -> Class
 }
 
 // The kind, with its days, of a contract's bill with that first day: a bill that starts after the original end takes the amended pair.
-fn kind_taken(amendment: Amendment, kind: Kind, first: u32) -> Kind
+pub fn kind_taken(amendment: Amendment, kind: Kind, first: u32) -> Kind
     ensures { λ r. ⌜ r ≡ kindTaken amendment kind first ⌝ }
 {
     match amendment {
@@ -210,13 +210,13 @@ fn kind_taken(amendment: Amendment, kind: Kind, first: u32) -> Kind
             price_fix_day,
             entry_day,
         } => {
-            if first <= original_end {
-                kind
-            } else {
+            if original_end < first {
                 Kind::Fixed {
                     price_fix_day,
                     entry_day,
                 }
+            } else {
+                kind
             }
         }
     }
@@ -234,24 +234,5 @@ pub fn terms_for(contract: Contract, first: u32) -> Terms
         fuel,
         kind: kind_taken(amendment, kind, first),
         certificate,
-    }
-}
-
-// Whether a span starts on or before the original end and ends after it.
-pub fn crosses_end(amendment: Amendment, first: u32, last: u32) -> bool
-    ensures { λ r. ⌜ r ≡ crossesEnd amendment first last ⌝ }
-{
-    match amendment {
-        Amendment::Unamended => false,
-        Amendment::Amended {
-            original_end,
-            price_fix_day: _,
-            entry_day: _,
-        } => {
-            if first <= original_end {
-                return original_end < last;
-            }
-            false
-        }
     }
 }

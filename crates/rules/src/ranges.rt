@@ -10,10 +10,11 @@ use limits::LAST_DAY;
 use limits::MOST_KWH_GIVEN;
 use limits::MOST_KWH_STORED;
 use model::Request;
+use rates::Amendment;
 use rates::Contract;
 use rates::Kind;
-use rates::crosses_end;
 ghost use mathlib.Core.Path.{_≡_};
+ghost use Rattle.rates.specs.TermsTaken.{crossesEnd};
 ghost use Rattle.model.specs.PresentRules.{badKind, badClass, badDays, badEffective, badAmendmentDays, badAmendment, notAmendable, badSpan, badMonths, badAmounts, badShares, contractRanges, billOk};
 ghost use Rattle.rules.specs.ContractListed.{listed};
 
@@ -132,6 +133,25 @@ pub fn bad_months(kind: Kind, first: u32, last: u32) -> bool
     false
 }
 
+// Whether a span starts on or before the original end and ends after it.
+pub fn crosses_end(amendment: Amendment, first: u32, last: u32) -> bool
+    ensures { λ r. ⌜ r ≡ crossesEnd amendment first last ⌝ }
+{
+    match amendment {
+        Amendment::Unamended => false,
+        Amendment::Amended {
+            original_end,
+            price_fix_day: _,
+            entry_day: _,
+        } => {
+            if first <= original_end {
+                return original_end < last;
+            }
+            false
+        }
+    }
+}
+
 // kWh, S or WAP is out of range, or a WAP is not 0 where the contract is not flexible.
 pub fn bad_amounts(contract: Contract, request: Request) -> bool
     ensures { λ r. ⌜ r ≡ badAmounts contract request ⌝ }
@@ -181,10 +201,10 @@ fn bad_amendment(
     if 1 < flag {
         return true;
     }
-    if kind == 0 {
-        return bad_amendment_days(original_end, price_fix_day, entry_day);
+    if kind != 0 {
+        return true;
     }
-    true
+    bad_amendment_days(original_end, price_fix_day, entry_day)
 }
 
 // The numbers of an open contract keep the ranges.

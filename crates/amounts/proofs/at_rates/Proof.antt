@@ -2,6 +2,7 @@
 use mathlib.Core.Path.{_≡_, sym}
 use Prim.Native.Nat.{ℕ, _+_, _*_}
 use Rattle.rates.specs.declared.Terms.{Terms}
+use Rattle.rates.specs.TermsTaken.{termsFor}
 use Rattle.rates.specs.declared.Class.the-variants.{Baseline, Etii, QhsOld, QhsNew}
 use Rattle.amounts.specs.declared.Bill.{Bill}
 use Rattle.amounts.specs.declared.KwhByClass.{KwhByClass}
@@ -18,10 +19,11 @@ unfolding amount
 four-amounts terms bill k baseline etii old new of e f g h = rw (e, f, g, h) (sym (of .priced (rateOf terms bill)))
 
 returns : tie.Need-returns
+unfolding termsFor
 returns c =
     let third = c .before .before in
     let start = third .before .before in
-    four-amounts (start .args .terms) (start .args .bill) (start .args .kwh) _ _ _ _ (start .pre .1) (third .before .at-rate .ensures .0) (third .at-rate2 .ensures .0) (c .before .at-rate3 .ensures .0) (c .at-rate4 .ensures .0)
+    four-amounts (termsFor (start .args .contract) (start .args .bill .first)) (start .args .bill) (start .args .kwh) _ _ _ _ (start .pre .1) (third .before .at-rate .ensures .0) (third .at-rate2 .ensures .0) (c .before .at-rate3 .ensures .0) (c .at-rate4 .ensures .0)
 
 pub at-rates-spec : {M : Type 1} → statement M
 at-rates-spec =

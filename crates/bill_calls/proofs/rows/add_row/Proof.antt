@@ -14,4 +14,4 @@ returns : tie.Need-returns
 returns c = search row-added
 
 pub add-row-spec : {M : Type 1} → statement M
-add-row-spec = tie.close (tie.spec (λ c κs. search needs) amount-requires insert-row-requires (λ c κs. search needs) (λ c. search needs) returns)
+add-row-spec = tie.close (tie.spec amount-requires insert-row-requires (λ c κs. search needs) (λ c. search needs) returns)

@@ -22,4 +22,4 @@ returns c = let change = signed-read _ _ (record { sfits = c .difference .ok }) 
 
 pub replace-row-spec : {M : Type 1} → statement M
 replace-row-spec =
-    tie.close (tie.spec (λ c κs. search needs) amount-requires row-at-requires replace-row-requires (λ c κs. search needs) difference-requires (λ c. search needs) returns)
+    tie.close (tie.spec amount-requires row-at-requires replace-row-requires (λ c κs. search needs) difference-requires (λ c. search needs) returns)

@@ -27,7 +27,6 @@ rerate-row-spec =
     (λ c κs. search needs)
     (λ c. search needs)
     returns
-    (λ c κs. search needs)
     whole-amount-requires
     (λ c. search needs)
     returns-2

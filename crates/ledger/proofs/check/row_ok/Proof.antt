@@ -22,6 +22,5 @@ row-ok-spec =
     (λ c. search needs)
     (λ c κs. search needs)
     returns-2
-    (λ c κs. search needs)
     is-amount-requires
     returns-3)

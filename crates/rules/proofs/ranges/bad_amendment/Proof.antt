@@ -14,6 +14,6 @@ bad-amendment-spec =
     (λ c. search chain)
     (λ c. search chain)
     (λ c. search chain)
-    (λ c κs. search needs)
     (λ c. search chain)
+    (λ c κs. search needs)
     (λ c. search chain))

@@ -1,8 +1,8 @@
 -- `crosses_end` tells a span that starts on or before the original end and ends after it.
 use borrow.Author.Tests.{le-leb, lt-leb}
 use borrow.Author.Needs.{needs}
-use Rattle.rates.proofs.crosses_end.Statement.{statement}
-use Rattle.rates.proofs.crosses_end.Tie as tie
+use Rattle.rules.proofs.ranges.crosses_end.Statement.{statement}
+use Rattle.rules.proofs.ranges.crosses_end.Tie as tie
 
 returns : tie.Need-returns
 returns c = simp (c .before .before .amendment .given .1, le-leb _ _ (c .if1 .taken))
