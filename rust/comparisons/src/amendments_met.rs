@@ -284,8 +284,7 @@ fn sort_by_minimum(name: &str, contract: &Contract, row: &Row, end: u32) -> Opti
 #[cfg(test)]
 mod tests {
     use super::sorts_of_call;
-    use crate::call_made::CallMade;
-    use calculator::calls::Call;
+    use crate::call_made::of_call;
     use calculator::codes::Territory;
     use calculator::postings::PostingModule;
 
@@ -305,18 +304,8 @@ mod tests {
         (book[300], book[540]) = (45_000, 31_200);
         let mut module = PostingModule::new(Territory::GreatBritain);
         let mut sorts = Vec::new();
-        for (name, numbers) in OPENED.iter().chain(lines) {
-            let call = Call::of(name, numbers).expect("a call");
-            let before = module.facts();
-            let outcome = module.call(&book, &call);
-            let made = CallMade {
-                call: &call,
-                book: &book,
-                outcome: &outcome,
-                before: &before,
-                after: &module.facts(),
-            };
-            sorts = sorts_of_call(&made);
+        for &line in OPENED.iter().chain(lines) {
+            sorts = of_call(&mut module, &book, line, sorts_of_call);
         }
         sorts
     }

@@ -255,33 +255,37 @@ fn a_span_across_the_original_end_is_number_17() -> Result<(), Refusal> {
     expect_span(&unamended(290)?, (486, 851), true)
 }
 
-/// A change that makes a bill meet a number.
-type Change = fn(&mut BillNumbers);
-
+/// Each bill or rebill meets number 17 and another one.
 #[test]
 fn number_17_comes_after_7_and_before_8() -> Result<(), Refusal> {
-    let changes: [(Change, Refusal); 9] = [
-        (|bill| bill.contract = 64, Refusal::NoSuchContract),
-        (|bill| bill.contract = 3, Refusal::WronglyOpen),
-        (|bill| bill.first = 485, Refusal::WrongDay),
-        (|bill| bill.last = 852, Refusal::WrongDay),
-        (|bill| bill.first = 670, Refusal::WrongDay),
-        (|bill| bill.kwh = 100_000_001, Refusal::CrossesOriginalEnd),
-        (|bill| bill.supply = 1_000_000, Refusal::CrossesOriginalEnd),
-        (|bill| bill.wap = 1, Refusal::CrossesOriginalEnd),
-        (|bill| bill.qhs_share = 1_001, Refusal::CrossesOriginalEnd),
-    ];
     let ledger = amended(290, 668, 545)?;
-    for (change, refusal) in changes {
-        let mut numbers = span(668, 669);
-        change(&mut numbers);
+    let across = span(668, 669);
+    let of_contract = |contract| BillNumbers { contract, ..across };
+    let too_much = BillNumbers {
+        kwh: 100_000_001,
+        ..across
+    };
+    let weighted = BillNumbers { wap: 1, ..across };
+    let shared = BillNumbers {
+        qhs_share: 1_001,
+        ..across
+    };
+    for (numbers, refusal) in [
+        (of_contract(64), Refusal::NoSuchContract),
+        (of_contract(3), Refusal::WronglyOpen),
+        (span(485, 669), Refusal::WrongDay),
+        (span(668, 852), Refusal::WrongDay),
+        (too_much, Refusal::CrossesOriginalEnd),
+        (weighted, Refusal::CrossesOriginalEnd),
+        (shared, Refusal::CrossesOriginalEnd),
+    ] {
         let description = format!("{numbers:?}");
         let bill = |ledger: &mut Ledger| ledger.bill(&book(), numbers);
         expect_refused(&ledger, refusal, bill, &description);
         let rebill = |ledger: &mut Ledger| ledger.rebill(&book(), numbers);
         expect_refused(&ledger, refusal, rebill, &description);
     }
-    let bill = |ledger: &mut Ledger| ledger.bill(&[0], span(668, 669));
+    let bill = |ledger: &mut Ledger| ledger.bill(&[0], across);
     expect_refused(&ledger, Refusal::BadBook, bill, "a book of one price");
     Ok(())
 }
