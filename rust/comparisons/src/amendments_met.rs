@@ -5,7 +5,7 @@
 
 use crate::call_made::CallMade;
 use crate::generator::{contract_of_number, original_end};
-use crate::rows_met::contract_name;
+use crate::rows_met::{contract_name, rows_of};
 use crate::sorts::Sorts;
 use calculator::book::entry_needed;
 use calculator::calls::{BillNumbers, Call};
@@ -196,11 +196,6 @@ fn sorts_of_cert(made: &CallMade, number: u32) -> Vec<String> {
     }
     let both = (sides.len() == 2).then(|| BOTH_SIDES.to_string());
     sorts.into_iter().chain(both).collect()
-}
-
-fn rows_of(facts: &Facts, contract: u32) -> impl Iterator<Item = &Row> {
-    let rows = facts.rows.iter();
-    rows.filter(move |row| row.contract == contract)
 }
 
 /// The contract of the number and its original end, if it is amended.

@@ -8,7 +8,7 @@ use crate::damages::{edited, one_if_any};
 use crate::each_call::{compare_each_call, Subject, NAMES};
 use crate::generator::{contract_day, contract_of_number};
 use crate::random::Random;
-use crate::rows_met::{contract_of, row_of};
+use crate::rows_met::{contract_of, row_of, rows_of};
 use calculator::codes::{Territory, SCHEME_FIRST_DAY};
 use calculator::dates::LAST_DAY;
 use calculator::facts::CONTRACTS;
@@ -268,7 +268,7 @@ fn is_other_without_rows(facts: &Facts, number: u32) -> bool {
 fn is_kind_without_rows(facts: &Facts, number: u32, wanted: fn(Kind) -> bool) -> bool {
     let contract = contract_of_number(facts, number);
     contract.is_some_and(|contract| wanted(contract.kind))
-        && !facts.rows.iter().any(|row| row.contract == number)
+        && rows_of(facts, number).next().is_none()
 }
 
 #[cfg(test)]
