@@ -8,6 +8,7 @@ use crate::generator::{
     open_contract, original_end, report, span_beside_end, total, unamended_numbers, Profile,
 };
 use crate::random::Random;
+use crate::rows_met::rows_of;
 use calculator::calls::Call;
 use calculator::codes::QHS_FIRST_DAY;
 use calculator::dates::LAST_DAY;
@@ -30,8 +31,8 @@ pub const AMENDING: &Profile = &[
     (1, total),
 ];
 
-/// Original ends about day 792 and after it: on both sides of such an end there are days on which
-/// either QHS minimum may apply.
+/// Original ends about day 792 and after it, so that bills on either side may have either QHS
+/// minimum.
 const ENDS: RangeInclusive<u32> = 786..=846;
 
 /// The most days of a bill beside an original end.
@@ -49,7 +50,7 @@ fn open_to_amend(random: &mut Random, facts: &Facts) -> Call {
 /// The amendment of a contract that has no rows yet.
 fn amend_before_bills(random: &mut Random, facts: &Facts) -> Call {
     let mut unbilled = unamended_numbers(facts);
-    unbilled.retain(|&number| !facts.rows.iter().any(|row| row.contract == number));
+    unbilled.retain(|&number| rows_of(facts, number).next().is_none());
     if unbilled.is_empty() {
         return amend(random, facts);
     }
@@ -120,4 +121,32 @@ fn row_of_amended(random: &mut Random, facts: &Facts) -> Option<Row> {
     let rows: Vec<Row> = rows.copied().collect();
     let one = random.mostly_one_of(&rows, OTHER_ONCE_IN);
     one.or_else(|| held_row(random, facts))
+}
+
+#[cfg(test)]
+mod tests {
+    use super::AMENDING;
+    use crate::damaged_ledgers::random_facts;
+    use crate::generator::original_end;
+    use crate::random::Random;
+    use calculator::codes::Territory;
+    use calculator::packed::{Facts, Row};
+    use std::cmp::Ordering;
+
+    /// Where the row starts beside the original end of its contract, if that is amended.
+    fn start(facts: &Facts, row: &Row) -> Option<Ordering> {
+        let end = original_end(facts, row.contract)?;
+        Some(row.bill.first_day.cmp(&end))
+    }
+
+    #[test]
+    fn histories_leave_rows_before_on_and_after_the_end() {
+        let mut random = Random::new(1, "ends", 0);
+        let facts = random_facts(&mut random, Territory::GreatBritain, AMENDING, 400);
+        let starts = facts.rows.iter().filter_map(|row| start(&facts, row));
+        let starts: Vec<Ordering> = starts.collect();
+        for side in [Ordering::Less, Ordering::Equal, Ordering::Greater] {
+            assert!(starts.contains(&side), "{side:?}");
+        }
+    }
 }

@@ -4,8 +4,8 @@
 //! days and the amendment's exchanged it would be another.
 
 use crate::call_made::CallMade;
-use crate::generator::contract_of_number;
-use crate::rows_met::contract_name;
+use crate::generator::{contract_of_number, original_end};
+use crate::rows_met::{contract_name, rows_of};
 use crate::sorts::Sorts;
 use calculator::book::entry_needed;
 use calculator::calls::{BillNumbers, Call};
@@ -15,6 +15,7 @@ use calculator::refusals::{
     CONTRACT_NOT_FIXED_OR_AMENDED_ALREADY, ROW_ENDS_AFTER_ORIGINAL_END, SPAN_CROSSES_ORIGINAL_END,
 };
 use std::cmp::Ordering;
+use std::collections::BTreeSet;
 
 const BEFORE_END: &str = "before the end";
 const ON_END: &str = "on the end";
@@ -157,17 +158,13 @@ fn sort_of_amend(made: &CallMade, contract: u32, end: u32) -> Option<String> {
 
 /// The sorts of a bill or rebill of an amended contract.
 fn sorts_of_bill(made: &CallMade, name: &str, numbers: BillNumbers) -> Vec<String> {
-    let contract = contract_of_number(made.before, numbers.contract);
-    let Some((contract, amendment)) = contract.and_then(amended) else {
+    let Some((contract, end)) = amended(made.before, numbers.contract) else {
         return Vec::new();
     };
-    let end = amendment.original_end_day;
     match *made.outcome {
         Err(SPAN_CROSSES_ORIGINAL_END) => {
-            vec![crossing(
-                name,
-                span_across(numbers.first, numbers.last, end),
-            )]
+            let span = span_across(numbers.first, numbers.last, end);
+            vec![crossing(name, span)]
         }
         Err(_) => Vec::new(),
         Ok(_) => {
@@ -185,36 +182,26 @@ fn sorts_of_bill(made: &CallMade, name: &str, numbers: BillNumbers) -> Vec<Strin
 /// The sorts of a certificate of an amended contract, by the rows whose amount it changed, each sort
 /// once.
 fn sorts_of_cert(made: &CallMade, number: u32) -> Vec<String> {
-    let contract = contract_of_number(made.after, number);
-    let Some((contract, amendment)) = contract.and_then(amended) else {
+    let Some((contract, end)) = amended(made.after, number) else {
         return Vec::new();
     };
-    let end = amendment.original_end_day;
     let re_rated = rows_of(made.after, number).filter(|row| !made.before.rows.contains(row));
-    let mut sorts = Vec::new();
-    let mut sides = [false; 2];
+    let mut sorts = BTreeSet::new();
+    let mut sides = BTreeSet::new();
     for row in re_rated {
         if let Some(sort) = sort_by_minimum(CERTIFICATE, &contract, row, end) {
-            sides[usize::from(row.bill.first_day > end)] = true;
-            sorts.push(sort);
+            sides.insert(row.bill.first_day > end);
+            sorts.insert(sort);
         }
     }
-    sorts.sort();
-    sorts.dedup();
-    if sides == [true; 2] {
-        sorts.push(BOTH_SIDES.to_string());
-    }
-    sorts
+    let both = (sides.len() == 2).then(|| BOTH_SIDES.to_string());
+    sorts.into_iter().chain(both).collect()
 }
 
-fn rows_of(facts: &Facts, contract: u32) -> impl Iterator<Item = &Row> {
-    let rows = facts.rows.iter();
-    rows.filter(move |row| row.contract == contract)
-}
-
-/// The contract and its amendment, if it is amended.
-fn amended(contract: Contract) -> Option<(Contract, Amendment)> {
-    Some((contract, contract.amendment?))
+/// The contract of the number and its original end, if it is amended.
+fn amended(facts: &Facts, number: u32) -> Option<(Contract, u32)> {
+    let end = original_end(facts, number)?;
+    Some((contract_of_number(facts, number)?, end))
 }
 
 fn start(first: u32, end: u32) -> &'static str {
@@ -237,16 +224,10 @@ fn span_across(first: u32, last: u32, end: u32) -> &'static str {
 
 /// The contract with its original price-fix and entry days and those of its amendment exchanged.
 fn exchanged(contract: &Contract) -> Contract {
-    let (
-        Kind::Fixed {
-            price_fix_day,
-            entry_day,
-        },
-        Some(amendment),
-    ) = (contract.kind, contract.amendment)
-    else {
+    let Some(amendment) = contract.amendment else {
         return *contract;
     };
+    let (_, price_fix_day, entry_day) = contract.kind.numbers();
     Contract {
         kind: Kind::Fixed {
             price_fix_day: amendment.price_fix_day,
@@ -284,8 +265,7 @@ fn sort_by_minimum(name: &str, contract: &Contract, row: &Row, end: u32) -> Opti
 #[cfg(test)]
 mod tests {
     use super::sorts_of_call;
-    use crate::call_made::CallMade;
-    use calculator::calls::Call;
+    use crate::call_made::of_call;
     use calculator::codes::Territory;
     use calculator::postings::PostingModule;
 
@@ -305,18 +285,8 @@ mod tests {
         (book[300], book[540]) = (45_000, 31_200);
         let mut module = PostingModule::new(Territory::GreatBritain);
         let mut sorts = Vec::new();
-        for (name, numbers) in OPENED.iter().chain(lines) {
-            let call = Call::of(name, numbers).expect("a call");
-            let before = module.facts();
-            let outcome = module.call(&book, &call);
-            let made = CallMade {
-                call: &call,
-                book: &book,
-                outcome: &outcome,
-                before: &before,
-                after: &module.facts(),
-            };
-            sorts = sorts_of_call(&made);
+        for &line in OPENED.iter().chain(lines) {
+            sorts = of_call(&mut module, &book, line, sorts_of_call);
         }
         sorts
     }

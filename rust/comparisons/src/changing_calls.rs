@@ -7,6 +7,7 @@ use crate::generator::{
     free_number, free_span, held_row, open_contract, rebill, report, total, Profile,
 };
 use crate::random::Random;
+use crate::rows_met::rows_of;
 use calculator::calls::{BillNumbers, Call};
 use calculator::codes::{QHS_FIRST_DAY, SCHEME_FIRST_DAY};
 use calculator::dates::LAST_DAY;
@@ -129,10 +130,10 @@ fn effective_day_of_qhs(random: &mut Random, span: (u32, u32)) -> u32 {
 
 /// An open contract, mostly one without rows.
 fn contract_to_bill(random: &mut Random, facts: &Facts) -> u32 {
-    let has_rows = |number| facts.rows.iter().any(|row| row.contract == number);
     let numbered = (0..).zip(&facts.contracts);
     let open = numbered.filter_map(|(number, contract)| contract.map(|_| number));
-    let free: Vec<u32> = open.filter(|&number| !has_rows(number)).collect();
+    let free = open.filter(|&number| rows_of(facts, number).next().is_none());
+    let free: Vec<u32> = free.collect();
     let one = random.mostly_one_of(&free, OTHER_CONTRACT_ONCE_IN);
     one.unwrap_or_else(|| open_contract(random, facts))
 }

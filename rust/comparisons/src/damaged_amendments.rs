@@ -8,7 +8,7 @@ use crate::damages::{edited, one_if_any};
 use crate::each_call::{compare_each_call, Subject, NAMES};
 use crate::generator::{contract_day, contract_of_number};
 use crate::random::Random;
-use crate::rows_met::{contract_of, row_of};
+use crate::rows_met::{contract_of, row_of, rows_of};
 use calculator::codes::{Territory, SCHEME_FIRST_DAY};
 use calculator::dates::LAST_DAY;
 use calculator::facts::CONTRACTS;
@@ -30,107 +30,101 @@ const HIGHEST_VALUE: u32 = (1 << 10) - 1;
 /// The highest value of a contract's five last bits.
 const HIGHEST_ZEROS: u32 = (1 << 5) - 1;
 
-/// A fault in the fields of one contract.
+/// A fault in the amendment of one contract.
 struct Fault {
     name: &'static str,
     /// Whether the contract of a number may get it.
     has_place: fn(&Facts, u32) -> bool,
-    edit: fn(&mut Random, &mut ContractNumbers),
+    amendment: fn(&mut Random) -> AmendmentNumbers,
 }
 
-const FAULTS: [Fault; 12] = [
+const FAULTS: [Fault; 11] = [
     Fault {
         name: "clear flag with three days",
         has_place: is_unamended,
-        edit: |random, numbers| {
-            numbers.amendment = any_amendment(random);
-            numbers.amendment.amended = false;
+        amendment: |random| AmendmentNumbers {
+            amended: false,
+            ..any_amendment(random)
         },
     },
     Fault {
         name: "clear flag with an original end day",
         has_place: is_unamended,
-        edit: |random, numbers| {
-            numbers.amendment.original_end_day = random.within(1..=LAST_DAY);
+        amendment: |random| AmendmentNumbers {
+            original_end_day: random.within(1..=LAST_DAY),
+            ..AmendmentNumbers::default()
         },
     },
     Fault {
         name: "clear flag with a price-fix day",
         has_place: is_unamended,
-        edit: |random, numbers| {
-            numbers.amendment.price_fix_day = random.within(1..=LAST_DAY);
+        amendment: |random| AmendmentNumbers {
+            price_fix_day: random.within(1..=LAST_DAY),
+            ..AmendmentNumbers::default()
         },
     },
     Fault {
         name: "clear flag with an entry day",
         has_place: is_unamended,
-        edit: |random, numbers| {
-            numbers.amendment.entry_day = random.within(1..=LAST_DAY);
+        amendment: |random| AmendmentNumbers {
+            entry_day: random.within(1..=LAST_DAY),
+            ..AmendmentNumbers::default()
         },
     },
     Fault {
         name: "set flag with three zero days",
         has_place: is_fixed_without_rows,
-        edit: |_, numbers| {
-            numbers.amendment = AmendmentNumbers::default();
-            numbers.amendment.amended = true;
+        amendment: |_| AmendmentNumbers {
+            amended: true,
+            ..AmendmentNumbers::default()
         },
     },
     Fault {
         name: "amendment of a contract that isn't fixed",
         has_place: is_other_without_rows,
-        edit: |random, numbers| numbers.amendment = any_amendment(random),
+        amendment: any_amendment,
     },
     Fault {
         name: "amendment of a contract that isn't open",
         has_place: |facts, number| contract_of_number(facts, number).is_none(),
-        edit: |random, numbers| numbers.amendment = any_amendment(random),
+        amendment: any_amendment,
     },
     Fault {
         name: "original end day below 486",
         has_place: is_fixed_without_rows,
-        edit: |random, numbers| {
-            let any = random.within(0..=SCHEME_FIRST_DAY - 1);
-            let end = random.one_of(&[0, SCHEME_FIRST_DAY - 1, any]);
-            numbers.amendment = any_amendment(random);
-            numbers.amendment.original_end_day = end;
+        amendment: |random| AmendmentNumbers {
+            original_end_day: below_486(random),
+            ..any_amendment(random)
         },
     },
     Fault {
         name: "original end day above 851",
         has_place: is_fixed_without_rows,
-        edit: |random, numbers| {
-            numbers.amendment = any_amendment(random);
-            numbers.amendment.original_end_day = above_851(random);
+        amendment: |random| AmendmentNumbers {
+            original_end_day: above_851(random),
+            ..any_amendment(random)
         },
     },
     Fault {
         name: "price-fix day above 851",
         has_place: is_fixed_without_rows,
-        edit: |random, numbers| {
-            numbers.amendment = any_amendment(random);
-            numbers.amendment.price_fix_day = above_851(random);
+        amendment: |random| AmendmentNumbers {
+            price_fix_day: above_851(random),
+            ..any_amendment(random)
         },
     },
     Fault {
         name: "entry day above 851",
         has_place: is_fixed_without_rows,
-        edit: |random, numbers| {
-            numbers.amendment = any_amendment(random);
-            numbers.amendment.entry_day = above_851(random);
-        },
-    },
-    Fault {
-        name: "last bits of an amended contract not zeros",
-        has_place: is_amended,
-        edit: |random, numbers| {
-            let bit = 1 << random.below(5);
-            numbers.zeros = random.one_of(&[bit, bit, HIGHEST_ZEROS]);
+        amendment: |random| AmendmentNumbers {
+            entry_day: above_851(random),
+            ..any_amendment(random)
         },
     },
 ];
 
-/// The fault of a row.
+/// The faults of other fields.
+const LAST_BITS: &str = "last bits of an amended contract not zeros";
 const ROW_ACROSS_END: &str = "row across the original end";
 
 /// The ledgers before they are damaged.
@@ -139,7 +133,7 @@ const UNDAMAGED: &str = "undamaged";
 /// Every sort.
 pub fn sorts() -> Vec<String> {
     let names = FAULTS.iter().map(|fault| fault.name);
-    let names = names.chain([ROW_ACROSS_END, UNDAMAGED]);
+    let names = names.chain([LAST_BITS, ROW_ACROSS_END, UNDAMAGED]);
     names.map(str::to_string).collect()
 }
 
@@ -167,24 +161,37 @@ pub fn compare(findings: &mut Findings, seed: u64) {
 
 /// The ledger of the facts, and with every fault for which it has a place.
 fn ledgers(random: &mut Random, facts: &Facts) -> Vec<(&'static str, Vec<u8>)> {
-    let mut ledgers = vec![(UNDAMAGED, pack(facts))];
+    let mut ledgers = vec![(UNDAMAGED, Some(pack(facts)))];
     for fault in &FAULTS {
-        if let Some(ledger) = with_fault(random, facts, fault) {
-            ledgers.push((fault.name, ledger));
-        }
+        let amendment = (fault.amendment)(random);
+        let ledger = with_contract(random, facts, fault.has_place, |numbers| {
+            numbers.amendment = amendment;
+        });
+        ledgers.push((fault.name, ledger));
     }
-    if let Some(facts) = with_row_across_end(random, facts) {
-        ledgers.push((ROW_ACROSS_END, pack(&facts)));
-    }
+    let zeros = any_last_bits(random);
+    let ledger = with_contract(random, facts, is_amended, |numbers| numbers.zeros = zeros);
+    ledgers.push((LAST_BITS, ledger));
+    let ledger = with_row_across_end(random, facts).map(|facts| pack(&facts));
+    ledgers.push((ROW_ACROSS_END, ledger));
+    let ledgers = ledgers.into_iter();
     ledgers
+        .filter_map(|(sort, ledger)| Some((sort, ledger?)))
+        .collect()
 }
 
-/// The ledger with a fault in one of the contracts that may get it, if there is any.
-fn with_fault(random: &mut Random, facts: &Facts, fault: &Fault) -> Option<Vec<u8>> {
-    let numbers = (0..CONTRACTS as u32).filter(|&number| (fault.has_place)(facts, number));
+/// The ledger with the fields of a contract edited that may be, if there is any.
+fn with_contract(
+    random: &mut Random,
+    facts: &Facts,
+    has_place: fn(&Facts, u32) -> bool,
+    edit: impl FnOnce(&mut ContractNumbers),
+) -> Option<Vec<u8>> {
+    let numbers = (0..CONTRACTS as u32).filter(|&number| has_place(facts, number));
     let number = one_if_any(random, numbers)?;
-    Some(edited(&pack(facts), |numbers, _| {
-        (fault.edit)(random, &mut numbers.contracts[number as usize]);
+    let ledger = pack(facts);
+    Some(edited(&ledger, |numbers, _| {
+        edit(&mut numbers.contracts[number as usize]);
     }))
 }
 
@@ -223,6 +230,17 @@ fn any_amendment(random: &mut Random) -> AmendmentNumbers {
     }
 }
 
+/// A contract's five last bits: one of them, or all.
+fn any_last_bits(random: &mut Random) -> u32 {
+    let bit = 1 << random.below(5);
+    random.one_of(&[bit, bit, HIGHEST_ZEROS])
+}
+
+fn below_486(random: &mut Random) -> u32 {
+    let any = random.within(0..=SCHEME_FIRST_DAY - 1);
+    random.one_of(&[0, SCHEME_FIRST_DAY - 1, any])
+}
+
 /// A value of a day's bits above the highest day.
 fn above_851(random: &mut Random) -> u32 {
     let any = random.within(LAST_DAY + 1..=HIGHEST_VALUE);
@@ -250,7 +268,7 @@ fn is_other_without_rows(facts: &Facts, number: u32) -> bool {
 fn is_kind_without_rows(facts: &Facts, number: u32, wanted: fn(Kind) -> bool) -> bool {
     let contract = contract_of_number(facts, number);
     contract.is_some_and(|contract| wanted(contract.kind))
-        && !facts.rows.iter().any(|row| row.contract == number)
+        && rows_of(facts, number).next().is_none()
 }
 
 #[cfg(test)]

@@ -168,7 +168,7 @@ fn limits(width: usize) -> &'static [u64] {
         27 => &[0, 1, 100_000_000, 100_000_001, 134_217_727],
         47 => &[0, 1, 1 << 46, (1 << 47) - 1],
         50 => &[0, 1, 1 << 49, (1 << 50) - 1],
-        _ => unreachable!("document 01 has no field of {width} bits"),
+        _ => unreachable!("no field has {width} bits"),
     }
 }
 

@@ -6,6 +6,7 @@
 
 use crate::months::month_end;
 use crate::random::Random;
+use crate::rows_met::rows_of;
 use calculator::calls::{BillNumbers, Call};
 use calculator::codes::{spans_share_a_day, Territory, HIGHEST_PRICE, MOST_KWH, SCHEME_FIRST_DAY};
 use calculator::dates::LAST_DAY;
@@ -301,8 +302,7 @@ pub fn total(_: &mut Random, _: &Facts) -> Call {
 pub fn amend(random: &mut Random, facts: &Facts) -> Call {
     let one = random.mostly_one_of(&unamended_numbers(facts), OTHER_AMENDMENT_ONCE_IN);
     let contract = one.unwrap_or_else(|| open_contract(random, facts));
-    let rows = facts.rows.iter().filter(|row| row.contract == contract);
-    let last_billed = rows.map(|row| row.bill.last_day).max();
+    let last_billed = rows_of(facts, contract).map(|row| row.bill.last_day).max();
     let original_end_day = match last_billed {
         Some(last) if !random.once_in(6) => {
             let later = random.within(last..=LAST_DAY);
@@ -477,8 +477,7 @@ pub fn free_span(
     };
     let mut span = draw();
     for _ in 0..6 {
-        let mut rows = facts.rows.iter().filter(|row| row.contract == contract);
-        if !rows.any(|row| spans_share_a_day(row.bill.span(), span)) {
+        if !rows_of(facts, contract).any(|row| spans_share_a_day(row.bill.span(), span)) {
             break;
         }
         span = draw();

@@ -3,7 +3,7 @@
 //! sheet").
 
 use crate::amending_calls::AMENDING;
-use crate::amendments_met::count_call;
+use crate::amendments_met;
 use crate::books::random_book;
 use crate::call_made::CallMade;
 use crate::changing_calls::CHANGING;
@@ -12,7 +12,7 @@ use crate::counts::Findings;
 use crate::generator::{random_call, start, Profile, CLAIMING, FILLING, MIXED};
 use crate::random::Random;
 use crate::rows_met::{count_certificate, count_rows};
-use calculator::calls::{Call, Outcome};
+use calculator::calls::Call;
 use calculator::codes::Territory;
 use calculator::packed::{unpack, Facts, LEDGER_BYTES};
 
@@ -72,44 +72,60 @@ fn compare_history(findings: &mut Findings, histories: &Histories, seed: u64, nu
     let kind = histories.kind;
     findings.library.count_run(kind);
     let mut random = Random::new(seed, kind, number);
-    let mut ledger: Vec<u8> = (0..LEDGER_BYTES).map(|_| random.number() as u8).collect();
-    let mut facts = Facts::fresh(Territory::GreatBritain);
-    let mut call = start(&mut random, &facts);
+    let mut history = History {
+        ledger: (0..LEDGER_BYTES).map(|_| random.number() as u8).collect(),
+        facts: Facts::fresh(Territory::GreatBritain),
+    };
+    let mut call = start(&mut random, &history.facts);
     for step in 0..=histories.calls {
         let place = || format!("seed {seed}, {kind}, number {number}, call {step}");
         let book = random_book(&mut random, &call);
-        let (outcome, left) = compare_next_call(findings, &mut ledger, &book, &call, place);
-        if let Call::Cert { contract, .. } = call {
-            count_certificate(&mut findings.rows, contract, &facts, &left);
-        }
-        let changes = &mut findings.library.changes;
-        changes.count_call(call.name(), &facts, &left);
-        let made = CallMade {
-            call: &call,
-            book: &book,
-            outcome: &outcome,
-            before: &facts,
-            after: &left,
-        };
-        count_call(&mut findings.library.amendments, &made);
-        facts = left;
-        call = random_call(&mut random, &facts, histories.profile);
+        history.compare_next_call(findings, &book, &call, count_call, place);
+        call = random_call(&mut random, &history.facts, histories.profile);
     }
-    count_rows(&mut findings.rows, &facts);
+    count_rows(&mut findings.rows, &history.facts);
 }
 
-/// Compares the next call of a history, with the book that it brings, and gives its outcome and
-/// the facts that it leaves in the ledger.
-pub fn compare_next_call(
-    findings: &mut Findings,
-    ledger: &mut Vec<u8>,
-    book: &[u32],
-    call: &Call,
-    place: impl Fn() -> String,
-) -> (Outcome, Facts) {
-    let ledger_call = LedgerCall { ledger, book, call };
-    let expected = compare_call(findings, &ledger_call, place);
-    *ledger = expected.ledger;
-    let left = unpack(ledger).expect("a history leaves a well-formed ledger");
-    (expected.outcome, left)
+fn count_call(findings: &mut Findings, made: &CallMade) {
+    if let Call::Cert { contract, .. } = *made.call {
+        count_certificate(&mut findings.rows, contract, made.before, made.after);
+    }
+    amendments_met::count_call(&mut findings.library.amendments, made);
+}
+
+/// A history while it is compared.
+pub struct History {
+    pub ledger: Vec<u8>,
+    /// The facts that the ledger holds.
+    pub facts: Facts,
+}
+
+impl History {
+    /// Compares the next call, with the book that it brings, and counts it: the bills with a change
+    /// inside, and what the function given counts.
+    pub fn compare_next_call(
+        &mut self,
+        findings: &mut Findings,
+        book: &[u32],
+        call: &Call,
+        count: fn(&mut Findings, &CallMade),
+        place: impl Fn() -> String,
+    ) {
+        let ledger = &self.ledger;
+        let ledger_call = LedgerCall { ledger, book, call };
+        let expected = compare_call(findings, &ledger_call, place);
+        let left = unpack(&expected.ledger).expect("a history leaves a well-formed ledger");
+        let made = CallMade {
+            call,
+            book,
+            outcome: &expected.outcome,
+            before: &self.facts,
+            after: &left,
+        };
+        let changes = &mut findings.library.changes;
+        changes.count_call(call.name(), made.before, made.after);
+        count(findings, &made);
+        self.ledger = expected.ledger;
+        self.facts = left;
+    }
 }

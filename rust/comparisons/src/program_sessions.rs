@@ -148,21 +148,20 @@ fn count_calls(findings: &mut Findings, input: &[u8]) {
         let name = name_of(line);
         let changes = &mut findings.program.changes;
         changes.count_call(&name, &before, &after);
-        let numbers = numbers_of(line, &outcome);
-        if let (Ok(_), &[index, price]) = (&outcome, numbers.as_slice()) {
-            if name == "price" {
-                book[index as usize] = price;
+        match (&*name, numbers_of(line, &outcome).as_slice(), &outcome) {
+            ("price", &[index, price], Ok(_)) => book[index as usize] = price,
+            (name, numbers, outcome) => {
+                if let Some(call) = Call::of(name, numbers) {
+                    let made = CallMade {
+                        call: &call,
+                        book: &book,
+                        outcome,
+                        before: &before,
+                        after: &after,
+                    };
+                    count_call(&mut findings.program.amendments, &made);
+                }
             }
-        }
-        if let Some(call) = Call::of(&name, &numbers) {
-            let made = CallMade {
-                call: &call,
-                book: &book,
-                outcome: &outcome,
-                before: &before,
-                after: &after,
-            };
-            count_call(&mut findings.program.amendments, &made);
         }
         before = after;
     }
@@ -234,5 +233,36 @@ total
                 1
             ),
         ]));
+    }
+
+    /// The rebill and the last bill that is taken find the same price by either price-fix day, so that
+    /// they aren't counted; nor are the lines that can't be read.
+    #[test]
+    fn the_calls_on_amended_contracts_are_counted() {
+        let input = b"price 300 45000
+price 540 31200
+open 5 0 0 300 290
+amend 5 800 540 545
+amend 5 800 540 545 0
+bill 5 800 800 10 50000 0 0 0
+bill 5 801 801 10 50000 0 0 00
+bill 5 801 801 10 50000 0 0 0
+price 540 1000000
+price 540 45000
+rebill 5 801 801 10 50000 0 0 0
+bill 5 802 802 10 50000 0 0 0
+bill 5 799 801 10 50000 0 0 0
+";
+        let mut findings = Findings::new();
+        count_calls(&mut findings, input);
+        let met = findings.program.amendments.met().into_iter();
+        let met = met.filter(|&(_, times)| times > 0);
+        let expected = [
+            "amended, no row held",
+            "bill refused by 17, up to the day after the end",
+            "bill that starts on the end, shown by R",
+            "bill that starts after the end, shown by R",
+        ];
+        assert!(met.eq(expected.map(|sort| (sort.to_string(), 1))));
     }
 }

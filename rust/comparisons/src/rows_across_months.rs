@@ -111,9 +111,8 @@ fn class(facts: &Facts, row: &Row) -> Class {
 #[cfg(test)]
 mod tests {
     use super::{count_call, sorts};
-    use crate::call_made::CallMade;
+    use crate::call_made::of_call;
     use crate::sorts::Sorts;
-    use calculator::calls::Call;
     use calculator::codes::Territory;
     use calculator::packed::{Facts, Row};
     use calculator::postings::PostingModule;
@@ -160,25 +159,16 @@ mod tests {
 
     /// A call on the facts meets these sorts of contract 5, each once, and no other.
     fn expect(name: &str, numbers: &[u32], expected: &[&str]) {
-        let call = Call::of(name, numbers).expect("a call");
-        let before = facts();
-        let mut module = PostingModule::from_facts(&before);
-        let book = [31_980; 1_740];
-        let outcome = module.call(&book, &call);
-        let made = CallMade {
-            call: &call,
-            book: &book,
-            outcome: &outcome,
-            before: &before,
-            after: &module.facts(),
-        };
+        let mut module = PostingModule::from_facts(&facts());
         let mut counted = Sorts::new(sorts(), 1);
-        count_call(&mut counted, &made);
+        of_call(&mut module, &[31_980; 1_740], (name, numbers), |made| {
+            count_call(&mut counted, made);
+        });
         let counted = counted.met().into_iter().filter(|&(_, times)| times > 0);
         let expected = expected
             .iter()
             .map(|sort| (format!("variable electricity across {sort}"), 1));
-        assert!(counted.eq(expected), "{call:?}");
+        assert!(counted.eq(expected), "{name} {numbers:?}");
     }
 
     #[test]

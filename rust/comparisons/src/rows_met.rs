@@ -48,13 +48,17 @@ pub fn count_rows(sorts: &mut Sorts, facts: &Facts) {
 /// Counts a certificate of the contract that changed amounts while the contract has a row with
 /// shares.
 pub fn count_certificate(sorts: &mut Sorts, contract: u32, before: &Facts, after: &Facts) {
-    let of_contract = |row: &&Row| row.contract == contract;
-    let rows_before = before.rows.iter().filter(of_contract);
-    let rows_after = after.rows.iter().filter(of_contract);
+    let rows_after = rows_of(after, contract);
     let beside_shares = rows_after.clone().any(|row| row.bill.has_shares());
-    if beside_shares && !rows_before.eq(rows_after) {
+    if beside_shares && !rows_of(before, contract).eq(rows_after) {
         sorts.count(RE_RATED);
     }
+}
+
+/// The held rows of a contract.
+pub fn rows_of(facts: &Facts, contract: u32) -> impl Iterator<Item = &Row> + Clone {
+    let rows = facts.rows.iter();
+    rows.filter(move |row| row.contract == contract)
 }
 
 /// The contract of a held row.

@@ -7,6 +7,7 @@ use crate::counts::Findings;
 use crate::generator::contract_numbers;
 use crate::places_met::count_call;
 use crate::random::Random;
+use crate::rows_met::rows_of;
 use crate::searched_ledgers::{searched_facts, shapes_and_sizes, Shape, ALWAYS_OPEN};
 use crate::searching_calls::{
     calls_beside_row, calls_on_contract, calls_on_row, calls_without_rows,
@@ -73,7 +74,7 @@ fn calls(random: &mut Random, facts: &Facts) -> Vec<Call> {
         calls.extend(calls_on_contract(random, contract));
     }
     for contract in ALWAYS_OPEN {
-        if !rows.iter().any(|row| row.contract == contract) {
+        if rows_of(facts, contract).next().is_none() {
             calls.extend(calls_without_rows(random, facts, contract));
         }
     }

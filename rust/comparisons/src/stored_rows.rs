@@ -6,7 +6,7 @@ use crate::call_made::CallMade;
 use crate::counts::Findings;
 use crate::damaged_ledgers::random_facts;
 use crate::generator::{random_call, BILLING, ON_ROWS};
-use crate::library_histories::compare_next_call;
+use crate::library_histories::History;
 use crate::months::month_end;
 use crate::random::Random;
 use crate::rows_across_months::{count_call, rows_across_months};
@@ -46,28 +46,23 @@ pub fn compare(findings: &mut Findings, seed: u64) {
 fn compare_history(findings: &mut Findings, seed: u64, number: u64) {
     findings.library.count_run(KIND);
     let mut random = Random::new(seed, KIND, number);
-    let mut facts = stored_facts(&mut random);
-    let mut ledger = pack(&facts);
+    let facts = stored_facts(&mut random);
+    let mut history = History {
+        ledger: pack(&facts),
+        facts,
+    };
     for step in 0..CALLS {
-        let aimed_at = across_months_alone(&facts);
+        let aimed_at = across_months_alone(&history.facts);
         if aimed_at.rows.is_empty() {
             break;
         }
         let call = random_call(&mut random, &aimed_at, ON_ROWS);
         let place = || format!("seed {seed}, {KIND}, number {number}, call {step}");
         let book = random_book(&mut random, &call);
-        let (outcome, left) = compare_next_call(findings, &mut ledger, &book, &call, place);
-        let made = CallMade {
-            call: &call,
-            book: &book,
-            outcome: &outcome,
-            before: &facts,
-            after: &left,
+        let count = |findings: &mut Findings, made: &CallMade| {
+            count_call(&mut findings.rows_across_months, made);
         };
-        count_call(&mut findings.rows_across_months, &made);
-        let changes = &mut findings.library.changes;
-        changes.count_call(call.name(), &facts, &left);
-        facts = left;
+        history.compare_next_call(findings, &book, &call, count, place);
     }
 }
 

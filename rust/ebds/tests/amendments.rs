@@ -255,33 +255,37 @@ fn a_span_across_the_original_end_is_number_17() -> Result<(), Refusal> {
     expect_span(&unamended(290)?, (486, 851), true)
 }
 
-/// A change that makes a bill meet a number.
-type Change = fn(&mut BillNumbers);
-
+/// Each bill or rebill meets number 17 and another one.
 #[test]
 fn number_17_comes_after_7_and_before_8() -> Result<(), Refusal> {
-    let changes: [(Change, Refusal); 9] = [
-        (|bill| bill.contract = 64, Refusal::NoSuchContract),
-        (|bill| bill.contract = 3, Refusal::WronglyOpen),
-        (|bill| bill.first = 485, Refusal::WrongDay),
-        (|bill| bill.last = 852, Refusal::WrongDay),
-        (|bill| bill.first = 670, Refusal::WrongDay),
-        (|bill| bill.kwh = 100_000_001, Refusal::CrossesOriginalEnd),
-        (|bill| bill.supply = 1_000_000, Refusal::CrossesOriginalEnd),
-        (|bill| bill.wap = 1, Refusal::CrossesOriginalEnd),
-        (|bill| bill.qhs_share = 1_001, Refusal::CrossesOriginalEnd),
-    ];
     let ledger = amended(290, 668, 545)?;
-    for (change, refusal) in changes {
-        let mut numbers = span(668, 669);
-        change(&mut numbers);
+    let across = span(668, 669);
+    let of_contract = |contract| BillNumbers { contract, ..across };
+    let too_much = BillNumbers {
+        kwh: 100_000_001,
+        ..across
+    };
+    let weighted = BillNumbers { wap: 1, ..across };
+    let shared = BillNumbers {
+        qhs_share: 1_001,
+        ..across
+    };
+    for (numbers, refusal) in [
+        (of_contract(64), Refusal::NoSuchContract),
+        (of_contract(3), Refusal::WronglyOpen),
+        (span(485, 669), Refusal::WrongDay),
+        (span(668, 852), Refusal::WrongDay),
+        (too_much, Refusal::CrossesOriginalEnd),
+        (weighted, Refusal::CrossesOriginalEnd),
+        (shared, Refusal::CrossesOriginalEnd),
+    ] {
         let description = format!("{numbers:?}");
         let bill = |ledger: &mut Ledger| ledger.bill(&book(), numbers);
         expect_refused(&ledger, refusal, bill, &description);
         let rebill = |ledger: &mut Ledger| ledger.rebill(&book(), numbers);
         expect_refused(&ledger, refusal, rebill, &description);
     }
-    let bill = |ledger: &mut Ledger| ledger.bill(&[0], span(668, 669));
+    let bill = |ledger: &mut Ledger| ledger.bill(&[0], across);
     expect_refused(&ledger, Refusal::BadBook, bill, "a book of one price");
     Ok(())
 }
@@ -313,9 +317,9 @@ fn number_17_comes_before_the_numbers_of_rows_and_prices() -> Result<(), Refusal
     Ok(())
 }
 
-fn billed(reference: u32, rate: i64) -> Billed {
+const fn billed(reference: u32, rate: i64) -> Billed {
     Billed {
-        reference: i64::from(reference),
+        reference: reference as i64,
         rate,
         amount: 1_000 * rate,
     }
@@ -337,32 +341,49 @@ fn the_price_of_the_other_side_is_not_needed() -> Result<(), Refusal> {
     Ok(())
 }
 
-/// Original entry day 290, end 668, the amendment's entry day 792.
-#[test]
-fn an_amended_contract_from_its_first_bill_to_its_last() -> Result<(), Refusal> {
+/// Original entry day 290, end 668, the amendment's entry day 792; bills of each side, of which the
+/// first comes before the amendment: (first day, last day, answer).
+const BILLS: [(u32, u32, Billed); 4] = [
+    (516, 546, billed(ORIGINAL_R, 19_610)),
+    (792, 820, billed(AMENDED_R, 10_000)),
+    (600, 668, billed(ORIGINAL_R, 19_610)),
+    (669, 699, billed(AMENDED_R, 10_000)),
+];
+
+/// The ledger of these bills.
+fn billed_on_both_sides() -> Result<Ledger, Refusal> {
     let mut ledger = unamended(290)?;
-    assert_eq!(
-        ledger.bill(&book(), span(516, 546))?,
-        billed(45_000, 19_610)
-    );
-    let before = ledger.report(0)?;
-    ledger.amend(0, 668, AMENDED_FIX, 792)?;
-    assert_eq!(ledger.report(0)?, before);
-    for (first, last, answer) in [
-        (792, 820, billed(31_200, 10_000)),
-        (600, 668, billed(45_000, 19_610)),
-        (669, 699, billed(31_200, 10_000)),
-    ] {
+    for (first, last, answer) in BILLS {
         assert_eq!(ledger.bill(&book(), span(first, last))?, answer, "{first}");
+        if first == 516 {
+            let before = ledger.report(0)?;
+            ledger.amend(0, 668, AMENDED_FIX, 792)?;
+            assert_eq!(ledger.report(0)?, before);
+        }
     }
-    // two rows from 19,610 to 160,000, one from 10,000 to 160,000, and the last, by the new minimum,
-    // from 10,000 to 217,600: 2 × 140,390,000 + 150,000,000 + 207,600,000
-    let certified = Certified {
-        change: 638_380_000,
-        rows: 4,
-    };
-    assert_eq!(ledger.cert(0, QHS)?, certified);
-    // 500 kWh in place of 1,000
+    Ok(ledger)
+}
+
+/// As QHS two rows go from 19,610 to 160,000, one from 10,000 to 160,000, and the last, by the new
+/// minimum, from 10,000 to 217,600: 2 × 140,390,000 + 150,000,000 + 207,600,000.
+#[test]
+fn certificates_re_rate_both_sides_and_keep_the_amendment() -> Result<(), Refusal> {
+    let mut ledger = billed_on_both_sides()?;
+    let (change, rows) = (638_380_000, 4);
+    assert_eq!(ledger.cert(0, QHS)?, Certified { change, rows });
+    expect_amend(&ledger, [0, 851, 0, 0], Some(Refusal::NotAmendable));
+    let change = -change;
+    let taken_away = ledger.cert(0, Certificate::None)?;
+    assert_eq!(taken_away, Certified { change, rows });
+    assert!(ledger == billed_on_both_sides()?);
+    Ok(())
+}
+
+/// 500 kWh in place of 1,000, as QHS.
+#[test]
+fn rebills_and_cancellations_of_both_sides() -> Result<(), Refusal> {
+    let mut ledger = billed_on_both_sides()?;
+    ledger.cert(0, QHS)?;
     for (first, last, reference, rate) in [
         (516, 546, 45_000, 160_000),
         (669, 699, 31_200, 160_000),
@@ -380,20 +401,14 @@ fn an_amended_contract_from_its_first_bill_to_its_last() -> Result<(), Refusal> 
         assert_eq!(ledger.rebill(&book(), half)?, rebilled, "{first}");
     }
     assert_eq!(ledger.cancel(0, 669)?.change, -80_000_000);
-    // 80,000,000 + 160,000,000 + 108,800,000
+    assert_eq!(ledger.cancel(0, 600)?.change, -160_000_000);
+    // 80,000,000 + 108,800,000
     let reported = Reported {
-        rows: 3,
-        kwh: 2_000,
-        due: 348_800_000,
+        rows: 2,
+        kwh: 1_000,
+        due: 188_800_000,
     };
     assert_eq!(ledger.report(0)?, reported);
-    // the amendment stands: 19,610 × 500 + 19,610 × 1,000 + 10,000 × 500 less that
-    let certified = Certified {
-        change: 34_415_000 - 348_800_000,
-        rows: 3,
-    };
-    assert_eq!(ledger.cert(0, Certificate::None)?, certified);
-    expect_amend(&ledger, [0, 851, 0, 0], Some(Refusal::NotAmendable));
     Ok(())
 }
 
