@@ -18,7 +18,7 @@ use Rattle.amounts.specs.declared.KwhByClass.{KwhByClass}
 use Rattle.amounts.specs.Amounts.{daysOf, share, hasShares, shareAt, billAt, Rateable}
 use Rattle.amounts.specs.Stretches.{byStretch, stretchesOf}
 use Rattle.amounts.specs.KwhFound.{kwhBefore, withNewMinimum, KwhOf}
-use Rattle.amounts.proofs.Days.{between-ends, between-first, between-last, in-first-all, before-first, before-most, before-grows}
+use Rattle.amounts.proofs.Days.{between-ends, between-first, between-last, in-first-all, before-first, after-last, before-most, before-grows}
 use Rattle.amounts.proofs.Stretches.{sum-over-stretches}
 use Rattle.amounts.proofs.Certificates.{cut}
 use Rattle.amounts.proofs.Shares.{bill-without, bill-with}
@@ -34,6 +34,13 @@ new-most kind bill k day days = either (enteredEarly kind)
     )))
 
 -- what `with_new_minimum` answers
+pub ends-before-new-minimum : (kind : Kind) (bill : Bill) (k day : ℕ) → bill .first ≤ bill .last → bill .last < newMinimumDay
+    → (0 ≡ withNewMinimum kind bill k day) × (kwhBefore bill k day + 0 ≤ k)
+ends-before-new-minimum kind bill k day days before = (
+  either (enteredEarly kind) (λ t. rw t) (λ t. rw t (omega (arith, after-last k (bill .first) (bill .last) (max day newMinimumDay) days (omega arith)))),
+  omega (arith, before-most k (daysOf bill) (bill .first) day (omega arith)),
+)
+
 module _ (kind : Kind) (bill : Bill) (k day : ℕ) (days : bill .first ≤ bill .last) (early : Bool) (is : early ≡ enteredEarly kind) where
   pub entered-early-none : early ≡ true → (0 ≡ withNewMinimum kind bill k day) × (kwhBefore bill k day + 0 ≤ k)
   entered-early-none t = let none : 0 ≡ withNewMinimum kind bill k day = rw (sym is ∙ t) in (none, omega (arith, new-most kind bill k day days))
@@ -103,20 +110,17 @@ module _ (terms : Terms) (bill : Bill) (ok : Rateable bill) where
       whole = omega arith;
     }
 
-    pub kwh-qhs : (day before new : ℕ) → terms .certificate ≡ Qhs day → before ≡ kwhBefore bill (bill .kwh) day → (kind : Kind) → kind ≡ terms .kind → new ≡ withNewMinimum kind bill (bill .kwh) day
+    pub kwh-qhs : (day before new : ℕ) → terms .certificate ≡ Qhs day → before ≡ kwhBefore bill (bill .kwh) day → new ≡ withNewMinimum (terms .kind) bill (bill .kwh) day
         → KwhOf terms bill (found before 0 (bill .kwh - before - new) new)
-    kwh-qhs day before new e is kind taken by-kind = let is-new = by-kind ∙ ap (λ (k : Kind). withNewMinimum k bill (bill .kwh) day) taken in record {
+    kwh-qhs day before new e is is-new = record {
       priced = λ price. under price (Qhs day) e ∙ share-qhs price (terms .kind) bill (bill .kwh) (ok .days) day ∙ rw (sym is, sym is-new) (omega arith);
       whole = omega (arith, is, is-new, new-most (terms .kind) bill (bill .kwh) day (ok .days));
     }
 
-  pub kwh-shares : hasShares bill ≡ true → (new : ℕ) (kind : Kind) → kind ≡ terms .kind → new ≡ withNewMinimum kind bill (bill .qhs) 0
+  pub kwh-shares : hasShares bill ≡ true → (new : ℕ) → new ≡ withNewMinimum (terms .kind) bill (bill .qhs) 0
       → KwhOf terms bill (found (bill .kwh - (bill .etii + bill .qhs)) (bill .etii) (bill .qhs - new) new)
-  kwh-shares some new kind taken by-kind = record { priced = priced; whole = omega (arith, ok .shares, is, new-most (terms .kind) bill (bill .qhs) 0 (ok .days)) }
+  kwh-shares some new is = record { priced = priced; whole = omega (arith, ok .shares, is, new-most (terms .kind) bill (bill .qhs) 0 (ok .days)) }
     where
-      is : new ≡ withNewMinimum (terms .kind) bill (bill .qhs) 0
-      is = by-kind ∙ ap (λ (k : Kind). withNewMinimum k bill (bill .qhs) 0) taken
-
       from-0 : (k : ℕ) → kwhBefore bill k 0 ≡ 0
       from-0 k = before-first k (daysOf bill) (bill .first) 0 (omega arith)
 

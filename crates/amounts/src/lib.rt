@@ -82,24 +82,28 @@ fn kwh_before(bill: Bill, kwh: u64, day: u32) -> u64
     kwh * (day - bill.first) as u64 / days
 }
 
-// Of so many kWh spread over a bill's days, of QHS from a day on, those with the new minimum.
-fn with_new_minimum(kind: Kind, bill: Bill, kwh: u64, day: u32) -> u64
-    requires { ⌜ Spreadable bill kwh ⌝ }
-    ensures { λ r. ⌜ (r ≡ withNewMinimum kind bill kwh day) × (kwhBefore bill kwh day + r ≤ kwh) ⌝ }
-{
-    if rates::entered_early(kind) {
-        return 0;
-    }
-    kwh - kwh_before(bill, kwh, greater(day, NEW_MINIMUM_DAY))
-}
-
-// The kind, with its days, that a bill takes of its contract. Only a QHS minimum asks for it.
+// The kind, with its days, that a bill takes of its contract.
 fn kind_of_bill(contract: Contract, bill: Bill) -> Kind
     ensures { λ r. ⌜ r ≡ termsFor contract (bill .first) .kind ⌝ }
 {
     let kind = contract.kind;
     let amendment = contract.amendment;
     kind_taken(amendment, kind, bill.first)
+}
+
+// Of so many kWh spread over a bill's days, of QHS from a day on, those with the new minimum: only a bill that reaches day 792 asks for its
+// kind.
+fn with_new_minimum(contract: Contract, bill: Bill, kwh: u64, day: u32) -> u64
+    requires { ⌜ Spreadable bill kwh ⌝ }
+    ensures { λ r. ⌜ (r ≡ withNewMinimum (termsFor contract (bill .first) .kind) bill kwh day) × (kwhBefore bill kwh day + r ≤ kwh) ⌝ }
+{
+    if bill.last < NEW_MINIMUM_DAY {
+        return 0;
+    }
+    if rates::entered_early(kind_of_bill(contract, bill)) {
+        return 0;
+    }
+    kwh - kwh_before(bill, kwh, greater(day, NEW_MINIMUM_DAY))
 }
 
 // The kWh in each class of a bill without shares: all of it is under its contract's certificate.
@@ -127,7 +131,7 @@ fn whole_by_class(contract: Contract, bill: Bill) -> KwhByClass
         }
         Certificate::Qhs { effective_day } => {
             let before = kwh_before(bill, kwh, effective_day);
-            let new = with_new_minimum(kind_of_bill(contract, bill), bill, kwh, effective_day);
+            let new = with_new_minimum(contract, bill, kwh, effective_day);
             KwhByClass {
                 baseline: before,
                 etii: 0,
@@ -144,7 +148,7 @@ fn shares_by_class(contract: Contract, bill: Bill) -> KwhByClass
     ensures { λ r. ⌜ KwhOf (termsFor contract (bill .first)) bill r ⌝ }
 {
     let qhs = bill.qhs as u64;
-    let new = with_new_minimum(kind_of_bill(contract, bill), bill, qhs, 0);
+    let new = with_new_minimum(contract, bill, qhs, 0);
     KwhByClass {
         baseline: (bill.kwh - (bill.etii + bill.qhs)) as u64,
         etii: bill.etii as u64,

@@ -27,19 +27,19 @@ illustration contract supply =
     ∷ []
 
 -- 1: the supply price stays far above the threshold; 2: it falls below it; 3: it falls to 1,000 mils above it. Then contract 1 is billed after its
--- original end, and neither across it nor amended again; an ETII certificate from June on re-rates its two later bills. Contract 4, of a heat
--- supplier, is amended with the original end 791 and entered anew on day 792
+-- original end, and not across it; contract 3 is amended already, and so is contract 1 also with its ETII certificate, which from June on re-rates two
+-- bills. Contract 4, of a heat supplier, is amended with the original end 791, by when its bill ends, and entered anew on day 792
 unfoldable pub blendCalls : List CallWithBook
 blendCalls = map (λ c. c with blendBook) (
     illustration 1 50000
     ++ illustration 2 28000
     ++ illustration 3 31200
     ++ Call.Bill (requestOf 1 660 670 1000 50000 0 0 0)
-    ∷ Call.Amend 1 851 540 545
     ∷ Call.Bill (requestOf 1 669 699 1000 50000 0 0 0)
     ∷ Call.Amend 3 575 540 545
     ∷ Call.Claim
     ∷ Call.Cert 1 1 547
+    ∷ Call.Amend 1 851 540 545
     ∷ Call.Open 4 0 0 300 290
     ∷ Call.Cert 4 2 511
     ∷ Call.Bill (requestOf 4 761 791 1000 50000 0 0 0)
@@ -67,11 +67,11 @@ blendAnswers =
     ∷ Done
     ∷ Billed 45000 10000 10000000
     ∷ Refused 17
-    ∷ Refused 16
     ∷ Billed 31200 10000 10000000
     ∷ Refused 16
     ∷ Claimed (pos 9844) 0
     ∷ Certified (pos 103873000) 2
+    ∷ Refused 16
     ∷ Done
     ∷ Certified (pos 0) 0
     ∷ Billed 45000 160000 160000000

@@ -86,6 +86,17 @@ atNumber4 = (Call.Open 64 0 0 0 0 with [] on britain gives 4) ∷ (Call.Open 63 
 unfoldable pub atNumber5 : List Boundary
 atNumber5 = (Call.Open 1 0 0 0 0 with [] on britain gives 5) ∷ (Call.Report 2 with [] on britain gives 5) ∷ (Call.Report 1 with [] on britain gives 0) ∷ []
 
+-- 16: the contract isn't fixed or is amended already
+unfoldable pub atNumber16 : List Boundary
+atNumber16 =
+    (Call.Amend 0 600 0 0 with [] on britain gives 16)
+    ∷ (Call.Amend 1 600 0 0 with [] on britain gives 16)
+    ∷ (Call.Amend 1 600 0 0 with [] on fixedAndIndex gives 16)
+    ∷ (Call.Amend 0 600 0 0 with [] on fixedAndIndex gives 0)
+    ∷ (Call.Amend 0 486 0 0 with [] on fixedAndIndex gives 0)
+    ∷ (Call.Amend 1 600 7 8 with [] on amended gives 16)
+    ∷ []
+
 -- 6: a code has no meaning, or kind 3 is given outside its place
 unfoldable pub atNumber6 : List Boundary
 atNumber6 =
@@ -127,26 +138,6 @@ atNumber7 =
     ∷ (Call.Amend 0 851 852 0 with [] on amended gives 7)
     ∷ (Call.Amend 0 851 0 852 with [] on amended gives 7)
     ∷ (Call.Amend 0 851 851 851 with [] on amended gives 0)
-    ∷ []
-
--- 16: the contract isn't fixed or is amended already
-unfoldable pub atNumber16 : List Boundary
-atNumber16 =
-    (Call.Amend 0 600 0 0 with [] on britain gives 16)
-    ∷ (Call.Amend 1 600 0 0 with [] on britain gives 16)
-    ∷ (Call.Amend 1 600 0 0 with [] on fixedAndIndex gives 16)
-    ∷ (Call.Amend 0 600 0 0 with [] on fixedAndIndex gives 0)
-    ∷ (Call.Amend 0 486 0 0 with [] on fixedAndIndex gives 0)
-    ∷ (Call.Amend 1 600 7 8 with [] on amended gives 16)
-    ∷ []
-
--- 18: a standing row ends after the original end given, one wholly after it too
-unfoldable pub atNumber18 : List Boundary
-atNumber18 =
-    (Call.Amend 0 600 0 0 with [] on amended gives 0)
-    ∷ (Call.Amend 0 599 0 0 with [] on amended gives 18)
-    ∷ (Call.Amend 0 589 0 0 with [] on amended gives 18)
-    ∷ (Call.Amend 0 486 0 0 with [] on amended gives 18)
     ∷ []
 
 -- a Northern Ireland ledger in which contract 1 is of that fuel and kind
@@ -196,6 +187,15 @@ atNumber17 =
     ∷ (Call.Rebill (requestOf 1 590 601 1 1 0 0 0) with replicate 1740 1 on amended gives 17)
     ∷ (Call.Rebill (requestOf 1 590 600 1 1 0 0 0) with replicate 1740 1 on amended gives 0)
     ∷ (Call.Rebill (requestOf 0 590 601 1 1 0 0 0) with replicate 1740 1 on amended gives 0)
+    ∷ []
+
+-- 18: a standing row ends after the original end given, one wholly after it too
+unfoldable pub atNumber18 : List Boundary
+atNumber18 =
+    (Call.Amend 0 600 0 0 with [] on amended gives 0)
+    ∷ (Call.Amend 0 599 0 0 with [] on amended gives 18)
+    ∷ (Call.Amend 0 589 0 0 with [] on amended gives 18)
+    ∷ (Call.Amend 0 486 0 0 with [] on amended gives 18)
     ∷ []
 
 -- 8: kWh is above 100,000,000, S or WAP above 999,999, or a WAP not 0 where it must be

@@ -8,16 +8,14 @@ use Rattle.amounts.proofs.shares_by_class.Tie as tie
 returns : tie.Need-returns
 returns c =
     let found = c .before .before .before in
-    let asked = found .before in
-    let start = asked .before .before in
-    kwh-shares (termsFor (start .args .contract) (start .args .bill .first)) (start .args .bill) (start .pre .0) (start .pre .1) _ _ (asked .kind-of-bill .ensures) (found .with-new-minimum .ensures .0)
+    let start = found .before .before in
+    kwh-shares (termsFor (start .args .contract) (start .args .bill .first)) (start .args .bill) (start .pre .0) (start .pre .1) _ (found .with-new-minimum .ensures .0)
 
 pub shares-by-class-spec : {M : Type 1} → statement M
 shares-by-class-spec =
     tie.close
     (tie.spec
     (λ c. search needs)
-    (λ c κs. search needs)
     (λ c κs. search needs)
     (λ c. search needs)
     (λ c. search needs)
