@@ -44,14 +44,14 @@ fn perform_checked(ledger: &mut [u8], rows: usize, due: u64, book: &[u32], call:
         Call::Total => checked_total(ledger, rows, due),
         Call::Amend {
             contract,
-            original_end,
+            original_end_day,
             price_fix_day,
             entry_day,
         } => amend(
             ledger,
             rows,
             contract,
-            original_end,
+            original_end_day,
             price_fix_day,
             entry_day,
         ),

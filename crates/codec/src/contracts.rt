@@ -98,7 +98,7 @@ fn numbers_in(s: &[u8]) -> ContractNumbers
         class: get_window(s, 0, CLASS_AT, CLASS_BITS),
         effective_day: get_window(s, 0, EFFECTIVE_AT, DAY_BITS),
         amendment_flag: get_window(s, 0, FLAG_AT, FLAG_BITS),
-        original_end: get_window(s, 0, ORIGINAL_END_AT, DAY_BITS),
+        original_end_day: get_window(s, 0, ORIGINAL_END_AT, DAY_BITS),
         amended_price_fix_day: get_window(s, 0, AMENDED_PRICE_FIX_AT, DAY_BITS),
         amended_entry_day: get_window(s, LAST_WINDOW, AMENDED_ENTRY_AT, DAY_BITS),
     }
@@ -129,7 +129,7 @@ fn slot_numbers(contract: Contract) -> [u64; NUMBERS]
         codes::class_code(certificate) as u64,
         codes::effective_day(certificate) as u64,
         codes::amendment_flag(amendment) as u64,
-        codes::original_end(amendment) as u64,
+        codes::original_end_day(amendment) as u64,
         codes::amended_price_fix_day(amendment) as u64,
         codes::amended_entry_day(amendment) as u64,
         0,

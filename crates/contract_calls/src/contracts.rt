@@ -38,11 +38,11 @@ pub fn certify(contract: Contract, class: u32, effective_day: u32) -> Contract
 // A contract with an amendment.
 pub fn amended(
     contract: Contract,
-    original_end: u32,
+    original_end_day: u32,
     price_fix_day: u32,
     entry_day: u32,
 ) -> Contract
-    ensures { λ r. ⌜ r ≡ amend contract «original_end» «price_fix_day» «entry_day» ⌝ }
+    ensures { λ r. ⌜ r ≡ amend contract «original_end_day» «price_fix_day» «entry_day» ⌝ }
 {
     let fuel = contract.fuel;
     let kind = contract.kind;
@@ -52,7 +52,7 @@ pub fn amended(
         kind,
         certificate,
         amendment: Amendment::Amended {
-            original_end,
+            original_end_day,
             price_fix_day,
             entry_day,
         },

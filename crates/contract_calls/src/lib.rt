@@ -96,18 +96,18 @@ pub fn amend(
     ledger: &mut [u8],
     rows: usize,
     contract: u32,
-    original_end: u32,
+    original_end_day: u32,
     price_fix_day: u32,
     entry_day: u32,
 ) -> Answer
     requires { ⌜ Searched (now ledger) rows ⌝ }
-    ensures { λ r. ⌜ AnsweredWithAnyBook (now (ledger .entry)) (Call.Amend contract «original_end» «price_fix_day» «entry_day») r (now (ledger .exit)) ⌝ }
+    ensures { λ r. ⌜ AnsweredWithAnyBook (now (ledger .entry)) (Call.Amend contract «original_end_day» «price_fix_day» «entry_day») r (now (ledger .exit)) ⌝ }
 {
     let refused = refused_amend(
         ledger,
         rows,
         contract,
-        original_end,
+        original_end_day,
         price_fix_day,
         entry_day,
     );
@@ -117,7 +117,7 @@ pub fn amend(
     let c = contract as usize;
     let changed = amended(
         contract_at(ledger, c),
-        original_end,
+        original_end_day,
         price_fix_day,
         entry_day,
     );

@@ -69,12 +69,12 @@ pub fn refused_amend(
     ledger: &[u8],
     rows: usize,
     contract: u32,
-    original_end: u32,
+    original_end_day: u32,
     price_fix_day: u32,
     entry_day: u32,
 ) -> u32
     requires { ⌜ Searched (now ledger) rows ⌝ }
-    ensures { λ r. ⌜ r ≡ refusal rules (viewOf (now (ledger .entry))) (Call.Amend contract «original_end» «price_fix_day» «entry_day» with []) ⌝ }
+    ensures { λ r. ⌜ r ≡ refusal rules (viewOf (now (ledger .entry))) (Call.Amend contract «original_end_day» «price_fix_day» «entry_day» with []) ⌝ }
 {
     let refused = refused_contract(ledger, contract);
     if refused != 0 {
@@ -83,10 +83,10 @@ pub fn refused_amend(
     if not_amendable(contract_at(ledger, contract as usize)) {
         return 16;
     }
-    if bad_amendment_days(original_end, price_fix_day, entry_day) {
+    if bad_amendment_days(original_end_day, price_fix_day, entry_day) {
         return 7;
     }
-    if ends_after(ledger, rows, contract, original_end) {
+    if ends_after(ledger, rows, contract, original_end_day) {
         return 18;
     }
     0

@@ -187,16 +187,16 @@ pub extern "C" fn ebds_total(ledger: &[u8], answer: &mut [i64; ANSWER_NUMBERS]) 
 pub extern "C" fn ebds_amend(
     ledger: &mut [u8],
     contract: u32,
-    original_end: u32,
+    original_end_day: u32,
     price_fix_day: u32,
     entry_day: u32,
     answer: &mut [i64; ANSWER_NUMBERS],
 ) -> u32
-    ensures { λ r. ⌜ Gives (now (ledger .entry)) (Call.Amend contract «original_end» «price_fix_day» «entry_day» with []) r (now (answer .exit)) (now (ledger .exit)) ⌝ }
+    ensures { λ r. ⌜ Gives (now (ledger .entry)) (Call.Amend contract «original_end_day» «price_fix_day» «entry_day» with []) r (now (answer .exit)) (now (ledger .exit)) ⌝ }
 {
     let call = Call::Amend {
         contract,
-        original_end,
+        original_end_day,
         price_fix_day,
         entry_day,
     };

@@ -1,7 +1,7 @@
 -- What is established of the packed ledger: its length, its round trips, and its histories. Assumes nothing.
 use mathlib.Core.Path.{_≡_, refl, ap, _∙_}
-use mathlib.Core.Bool.{Bool, true, false}
-use mathlib.Core.List.{List, _∷_, _++_}
+use mathlib.Core.Bool.{Bool, true, false, cond}
+use mathlib.Core.List.{List, [], _∷_, _++_}
 use Prim.Native.Nat.{ℕ, zero, suc, _-_, _*_, _≤_}
 use native.Mathlib.Omega.{arith}
 use lib.ListN.{replicate, replicate-append-replicate}
@@ -11,9 +11,10 @@ use Rattle.records.specs.Pack.{size, pack}
 use Rattle.basics.specs.Lists.{All}
 use Rattle.model.specs.declared.Row.{Row}
 use Rattle.model.specs.declared.Call.{Call}
-use Rattle.model.specs.Calls.{CallWithBook, _with_}
-use Rattle.model.specs.Rules.{refusal}
-use Rattle.model.specs.Ledger.{Ledger, fresh, view, accept}
+use Rattle.model.specs.declared.Answer.the-variants.{Refused}
+use Rattle.model.specs.Calls.{CallWithBook, valuesOf, _with_}
+use Rattle.model.specs.Rules.{refusal, unlessRefused}
+use Rattle.model.specs.Ledger.{Ledger, fresh, view, turnedDown, accept, outcome, answer}
 use Rattle.model.specs.StoredEarlier.{RatedByDay}
 use Rattle.model.proofs.StoredEarlier.{by-day, stored-earlier}
 use Rattle.model.proofs.HoldsFacts.{bytes-hold}
@@ -88,8 +89,20 @@ rows-kept b f c end fix entry book = go (refusal rules (view (facts b)) call) re
         ∙ ap (λ (l : Ledger). l .rows) (unpacked-packed present next (stays-act rules (present .rules) (facts b) call (facts-kept b f) e))
     go (suc n) e = ap rows-of (machine-refused present b call f (suc n) (omega arith) e .left)
 
+no-numbers : (b : List ℕ) (c end fix entry : ℕ) (book : List ℕ) → valuesOf (machine .answer b (Call.Amend c end fix entry with book)) ≡ []
+unfolding answer outcome accept
+no-numbers b c end fix entry book = go (wellFormed rules layout b) (refusal rules (view (facts b)) call)
+  where
+    call : CallWithBook
+    call = Call.Amend c end fix entry with book
+
+    go : (formed : Bool) (n : ℕ) → valuesOf (cond formed (unlessRefused n (accept rules (facts b) call) (turnedDown (facts b) n) .answers) (Refused 2)) ≡ []
+    go true zero = refl
+    go true (suc n) = refl
+    go false n = refl
+
 pub amend-alters-no-row : AmendAltersNoRow
-amend-alters-no-row = record { rows = rows-kept; parts = every-amend-keeps-parts rules (present .rules) }
+amend-alters-no-row = record { answers = no-numbers; rows = rows-kept; parts = every-amend-keeps-parts rules (present .rules) }
 
 pub number-two-meets-no-call : NumberTwoMeetsNoCall
 number-two-meets-no-call = bytes-well-formed rules (present .rules) (format rules layout) format-laws

@@ -1,6 +1,6 @@
 -- What is established of the packed ledger, by the rules and the layout in force. Assumes nothing.
 use mathlib.Core.Path.{_≡_}
-use mathlib.Core.List.{List, _∷_}
+use mathlib.Core.List.{List, [], _∷_}
 use mathlib.Core.Logic.{_↔_}
 use Prim.Native.Nat.{ℕ, _-_, _*_, _≤_}
 use lib.ListN.{length, replicate}
@@ -8,7 +8,7 @@ use Rattle.basics.specs.Lists.{All}
 use Rattle.amounts.specs.EarlierAmount.{earlierAmount}
 use Rattle.model.specs.declared.Answer.the-variants.{Refused}
 use Rattle.model.specs.declared.Call.{Call}
-use Rattle.model.specs.Calls.{CallWithBook, _with_}
+use Rattle.model.specs.Calls.{CallWithBook, valuesOf, _with_}
 use Rattle.model.specs.Ledger.{Ledger, fresh}
 use Rattle.model.specs.WellFormed.{WellFormed}
 use Rattle.model.specs.StoredEarlier.{rulesWith, RatedByDay}
@@ -43,7 +43,7 @@ pub record ClaimsKept : Type 0 where
   pub no-pence : (b : List ℕ) → Formed b → facts b .claims ≡ 0 → facts b .pence ≡ 0
 
 -- "the amount is kWh times rate", by day: of each row of a well-formed ledger; bytes with a held row whose amount isn't that are turned down by
--- number 2, whatever the call, and no byte is changed; a ledger stored earlier whose amounts are those by day is well formed
+-- number 2, whatever the call, and no byte is changed; the bytes of a ledger's facts that were well formed earlier are so where the amounts are those by day
 pub record AmountsKept : Type 0 where
   pub by-day : (b : List ℕ) → Formed b → All (RatedByDay (facts b .contracts)) (facts b .rows)
   pub refused : (b : List ℕ) → (All (RatedByDay (facts b .contracts)) (facts b .rows) → ⊥) → (c : CallWithBook) → machine .answer b c ≡ Refused 2
@@ -73,8 +73,9 @@ PackedAnswersFromTheSheet = EveryAnswerFromTheSheet rules machine
 abbrev pub PackedSameAsPostings : Type 0
 PackedSameAsPostings = SameAsPostings rules machine
 
--- an amend "answers no numbers and alters no row": of a well-formed ledger, whatever numbers are given
+-- an amend "answers no numbers and alters no row": of any bytes, and of a well-formed ledger, whatever numbers are given
 pub record AmendAltersNoRow : Type 0 where
+  pub answers : (b : List ℕ) (c end fix entry : ℕ) (book : List ℕ) → valuesOf (machine .answer b (Call.Amend c end fix entry with book)) ≡ []
   pub rows : (b : List ℕ) → Formed b → (c end fix entry : ℕ) (book : List ℕ) → facts (machine .step b (Call.Amend c end fix entry with book)) .rows ≡ facts b .rows
   -- and in every history it changes no bill's part of due
   pub parts : EveryAmendKeepsParts rules

@@ -15,7 +15,7 @@ use Rattle.rates.specs.declared.Certificate.{Certificate}
 use Rattle.rates.specs.declared.Certificate.the-variants.{None, Etii, Qhs}
 use Rattle.rates.specs.declared.Amendment.{Amendment}
 use Rattle.rates.specs.declared.Amendment.the-variants.{Unamended, Amended}
-use Rattle.model.specs.Codes.{fuelOf, fuelCode, kindOf, kindCode, priceFixDay, entryDay, certificateOf, classCode, effectiveDay, isFixed, amendmentOf, amendmentFlag, originalEnd, amendedPriceFixDay, amendedEntryDay, isAmended}
+use Rattle.model.specs.Codes.{fuelOf, fuelCode, kindOf, kindCode, priceFixDay, entryDay, certificateOf, classCode, effectiveDay, isFixed, amendmentOf, amendmentFlag, originalEndDay, amendedPriceFixDay, amendedEntryDay, isAmended}
 use Rattle.model.specs.PresentRules.{badDays, badEffective, badAmendmentDays, badAmendment}
 
 -- ---- from numbers and back
@@ -72,7 +72,7 @@ class-day class effective h b = either (eqb class 1) (λ e. rw e) (λ e. either 
 -- an amendment's four numbers
 pub record AmendmentNumbers (a : Amendment) (flag end fix entry : ℕ) : Type 0 where
   pub flags : amendmentFlag a ≡ flag
-  pub ends : originalEnd a ≡ end
+  pub ends : originalEndDay a ≡ end
   pub fixes : amendedPriceFixDay a ≡ fix
   pub enters : amendedEntryDay a ≡ entry
 
@@ -113,7 +113,7 @@ certificate-of-code None = refl
 certificate-of-code (Etii effective) = refl
 certificate-of-code (Qhs effective) = refl
 
-pub amendment-of-numbers : (amendment : Amendment) → amendmentOf (amendmentFlag amendment) (originalEnd amendment) (amendedPriceFixDay amendment) (amendedEntryDay amendment) ≡ amendment
+pub amendment-of-numbers : (amendment : Amendment) → amendmentOf (amendmentFlag amendment) (originalEndDay amendment) (amendedPriceFixDay amendment) (amendedEntryDay amendment) ≡ amendment
 amendment-of-numbers Unamended = refl
 amendment-of-numbers (Amended end fix entry) = refl
 

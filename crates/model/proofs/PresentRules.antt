@@ -16,7 +16,7 @@ use Rattle.amounts.specs.declared.Bill.{Bill}
 use Rattle.amounts.specs.Amounts.{Rateable, amount, byTerms}
 use Rattle.amounts.proofs.AmountBounds.{amount-capped, amount-low}
 use Rattle.model.specs.Codes.{kindCode, isFixed, opening, certify, amend}
-use Rattle.model.specs.ContractNumbers.{numbersOfContract, contractOfNumbers, fuelIn, kindIn, priceFixDayIn, entryDayIn, classIn, effectiveDayIn, amendmentFlagIn, originalEndIn, amendedPriceFixDayIn, amendedEntryDayIn}
+use Rattle.model.specs.ContractNumbers.{numbersOfContract, contractOfNumbers, fuelIn, kindIn, priceFixDayIn, entryDayIn, classIn, effectiveDayIn, amendmentFlagIn, originalEndDayIn, amendedPriceFixDayIn, amendedEntryDayIn}
 use Rattle.model.specs.Contracts.{contractAt, isOpen}
 use Rattle.model.specs.declared.Call.{Call}
 use Rattle.model.specs.declared.Request.{Request}
@@ -53,7 +53,7 @@ pub record ContractRanges (t : ℕ) (v : List ℕ) : Type 0 where
   pub days : badDays (kindIn v) (priceFixDayIn v) (entryDayIn v) ≡ false
   pub class : badClass (classIn v) ≡ false
   pub effective : badEffective (classIn v) (effectiveDayIn v) ≡ false
-  pub amendment : badAmendment (kindIn v) (amendmentFlagIn v) (originalEndIn v) (amendedPriceFixDayIn v) (amendedEntryDayIn v) ≡ false
+  pub amendment : badAmendment (kindIn v) (amendmentFlagIn v) (originalEndDayIn v) (amendedPriceFixDayIn v) (amendedEntryDayIn v) ≡ false
 
 pub contract-ranges : (t : ℕ) (v : List ℕ) → contractRanges t v ≡ true → ContractRanges t v
 unfolding contractRanges
@@ -75,7 +75,7 @@ pub contract-numbers : (t : ℕ) (v : List ℕ) → contractRanges t v ≡ true
     ∷ classIn v
     ∷ effectiveDayIn v
     ∷ amendmentFlagIn v
-    ∷ originalEndIn v
+    ∷ originalEndDayIn v
     ∷ amendedPriceFixDayIn v
     ∷ amendedEntryDayIn v
     ∷ []

@@ -33,5 +33,6 @@ ranges-kept = record {
   in-range = refl;
   out-of-range = refl;
   index-in-northern-ireland = refl;
+  amended-index = refl;
   gas-index = refl;
 }

@@ -48,12 +48,13 @@ northernIreland = sheetWith 1 (standing 0 500 510 ∷ standing 0 600 610 ∷ [])
 unfoldable pub fixedAndIndex : Sheet
 fixedAndIndex = record { territory = 1; contracts = putContract (putContract noContracts 0 (opening 0 0 5 6)) 1 (opening 0 3 0 0); bills = []; claims = 0 }
 
--- a ledger with two contracts of fixed electricity, the second amended with the original end 600; both have a bill of the days 590 to 600
+-- a ledger with two contracts of fixed electricity, the second amended with the original end 600, and a flexible one; the first two have a bill of
+-- the days 590 to 600, the third one that ends later
 unfoldable pub amended : Sheet
 amended = record {
   territory = 0;
   contracts = putContract (putContract (putContract noContracts 0 (opening 0 0 5 6)) 1 (amend (opening 0 0 5 6) 600 7 8)) 2 (opening 0 2 0 0);
-  bills = standing 0 590 600 ∷ standing 1 590 600 ∷ [];
+  bills = standing 0 590 600 ∷ standing 1 590 600 ∷ standing 2 590 851 ∷ [];
   claims = 0;
 }
 
@@ -138,6 +139,8 @@ atNumber7 =
     ∷ (Call.Amend 0 851 852 0 with [] on amended gives 7)
     ∷ (Call.Amend 0 851 0 852 with [] on amended gives 7)
     ∷ (Call.Amend 0 851 851 851 with [] on amended gives 0)
+    ∷ (Call.Amend 0 600 851 0 with [] on amended gives 0)
+    ∷ (Call.Amend 0 600 0 851 with [] on amended gives 0)
     ∷ []
 
 -- a Northern Ireland ledger in which contract 1 is of that fuel and kind
@@ -169,19 +172,19 @@ monthsGive fuel kind twoMonths =
 unfoldable pub atNumber15 : List Boundary
 atNumber15 = monthsGive 0 1 15 ++ monthsGive 1 1 15 ++ monthsGive 0 3 15 ++ monthsGive 0 0 0 ++ monthsGive 1 2 0
 
--- a span of the amended contract, and of the one that isn't, billed, and billed again in place of the row of the days 590 to 600
-unfoldable pub endGives : (first last number : ℕ) → List Boundary
-endGives first last number =
-    (Call.Bill (requestOf 1 first last 1 1 0 0 0) with replicate 1740 1 on amended gives number)
+-- a span that is billed of the amended contract and of the one that isn't, and taken
+unfoldable pub besideEnd : (first last : ℕ) → List Boundary
+besideEnd first last =
+    (Call.Bill (requestOf 1 first last 1 1 0 0 0) with replicate 1740 1 on amended gives 0)
     ∷ (Call.Bill (requestOf 0 first last 1 1 0 0 0) with replicate 1740 1 on amended gives 0)
     ∷ []
 
 -- 17: the span starts on or before the original end and ends after it
 unfoldable pub atNumber17 : List Boundary
 atNumber17 =
-    endGives 580 589 0
-    ++ endGives 601 601 0
-    ++ endGives 601 851 0
+    besideEnd 580 589
+    ++ besideEnd 601 601
+    ++ besideEnd 601 851
     ++ (Call.Bill (requestOf 1 600 601 1 1 0 0 0) with replicate 1740 1 on amended gives 17)
     ∷ (Call.Bill (requestOf 1 486 851 1 1 0 0 0) with replicate 1740 1 on amended gives 17)
     ∷ (Call.Rebill (requestOf 1 590 601 1 1 0 0 0) with replicate 1740 1 on amended gives 17)

@@ -77,16 +77,16 @@ effectiveDay (Etii effective) = effective
 effectiveDay (Qhs effective) = effective
 
 -- an amendment: a flag, 0 where there is none, and the three days, the original end, the price-fix day and the entry day
-abbrev pub amendmentOf : (flag originalEnd priceFixDay entryDay : ℕ) → Amendment
+abbrev pub amendmentOf : (flag originalEndDay priceFixDay entryDay : ℕ) → Amendment
 amendmentOf flag end fix entry = cond (eqb flag 0) Unamended (Amended end fix entry)
 
 abbrev pub amendmentFlag : Amendment → ℕ
 amendmentFlag Unamended = 0
 amendmentFlag (Amended end fix entry) = 1
 
-abbrev pub originalEnd : Amendment → ℕ
-originalEnd Unamended = 0
-originalEnd (Amended end fix entry) = end
+abbrev pub originalEndDay : Amendment → ℕ
+originalEndDay Unamended = 0
+originalEndDay (Amended end fix entry) = end
 
 abbrev pub amendedPriceFixDay : Amendment → ℕ
 amendedPriceFixDay Unamended = 0
@@ -109,5 +109,5 @@ unfoldable pub certify : Contract → (class effectiveDay : ℕ) → Contract
 certify k class effective = record { fuel = k .fuel; kind = k .kind; certificate = certificateOf class effective; amendment = k .amendment }
 
 -- a contract with an amendment: "an accepted amend adds the three days to its contract"
-unfoldable pub amend : Contract → (originalEnd priceFixDay entryDay : ℕ) → Contract
+unfoldable pub amend : Contract → (originalEndDay priceFixDay entryDay : ℕ) → Contract
 amend k end fix entry = record { fuel = k .fuel; kind = k .kind; certificate = k .certificate; amendment = Amended end fix entry }

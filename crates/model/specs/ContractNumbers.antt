@@ -4,7 +4,7 @@ use mathlib.Core.List.{List, [], _∷_}
 use Prim.Native.Nat.{ℕ}
 use lib.ListN.{getD}
 use Rattle.rates.specs.declared.Contract.{Contract}
-use Rattle.model.specs.Codes.{fuelOf, fuelCode, kindOf, kindCode, priceFixDay, entryDay, certificateOf, classCode, effectiveDay, amendmentOf, amendmentFlag, originalEnd, amendedPriceFixDay, amendedEntryDay}
+use Rattle.model.specs.Codes.{fuelOf, fuelCode, kindOf, kindCode, priceFixDay, entryDay, certificateOf, classCode, effectiveDay, amendmentOf, amendmentFlag, originalEndDay, amendedPriceFixDay, amendedEntryDay}
 
 -- fuel, kind, price-fix day, entry day, class, effective day; then of the amendment a flag, the original end, the price-fix day and the entry day
 abbrev pub numbersOfContract : Contract → List ℕ
@@ -16,7 +16,7 @@ numbersOfContract k =
     ∷ classCode (k .certificate)
     ∷ effectiveDay (k .certificate)
     ∷ amendmentFlag (k .amendment)
-    ∷ originalEnd (k .amendment)
+    ∷ originalEndDay (k .amendment)
     ∷ amendedPriceFixDay (k .amendment)
     ∷ amendedEntryDay (k .amendment)
     ∷ []
@@ -43,8 +43,8 @@ effectiveDayIn v = getD v 5 0
 abbrev pub amendmentFlagIn : List ℕ → ℕ
 amendmentFlagIn v = getD v 6 0
 
-abbrev pub originalEndIn : List ℕ → ℕ
-originalEndIn v = getD v 7 0
+abbrev pub originalEndDayIn : List ℕ → ℕ
+originalEndDayIn v = getD v 7 0
 
 abbrev pub amendedPriceFixDayIn : List ℕ → ℕ
 amendedPriceFixDayIn v = getD v 8 0
@@ -58,5 +58,5 @@ contractOfNumbers v = record {
   fuel = fuelOf (fuelIn v);
   kind = kindOf (kindIn v) (priceFixDayIn v) (entryDayIn v);
   certificate = certificateOf (classIn v) (effectiveDayIn v);
-  amendment = amendmentOf (amendmentFlagIn v) (originalEndIn v) (amendedPriceFixDayIn v) (amendedEntryDayIn v);
+  amendment = amendmentOf (amendmentFlagIn v) (originalEndDayIn v) (amendedPriceFixDayIn v) (amendedEntryDayIn v);
 }

@@ -15,7 +15,7 @@ use Rattle.rates.specs.TermsTaken.{crossesEnd}
 use Rattle.amounts.specs.declared.Bill.{Bill}
 use Rattle.amounts.specs.Amounts.{rate, amount, cap, byTerms}
 use Rattle.model.specs.Codes.{isFixed, isFlexible, isMonthly, isAmended}
-use Rattle.model.specs.ContractNumbers.{numbersOfContract, fuelIn, kindIn, priceFixDayIn, entryDayIn, classIn, effectiveDayIn, amendmentFlagIn, originalEndIn, amendedPriceFixDayIn, amendedEntryDayIn}
+use Rattle.model.specs.ContractNumbers.{numbersOfContract, fuelIn, kindIn, priceFixDayIn, entryDayIn, classIn, effectiveDayIn, amendmentFlagIn, originalEndDayIn, amendedPriceFixDayIn, amendedEntryDayIn}
 use Rattle.model.specs.Contracts.{contractAt, contractOf, isOpen}
 use Rattle.model.specs.declared.Call.{Call}
 use Rattle.model.specs.declared.Request.{Request}
@@ -55,7 +55,7 @@ unfoldable pub badSpan : (first last : ℕ) → Bool
 badSpan first last = not (leb firstSchemeDay first && (leb first last && leb last lastDay))
 
 -- 7: an original end that is no day of the scheme, or an amendment's price-fix or entry day after the last day
-unfoldable pub badAmendmentDays : (originalEnd priceFixDay entryDay : ℕ) → Bool
+unfoldable pub badAmendmentDays : (originalEndDay priceFixDay entryDay : ℕ) → Bool
 badAmendmentDays end fix entry = not (leb firstSchemeDay end && leb end lastDay) || (ltb lastDay fix || ltb lastDay entry)
 
 -- 15: a variable or index span touches two months: its first and last day, which are the scheme's, aren't in one
@@ -131,7 +131,7 @@ tests v (Call.Amend c end fix entry with book) =
 -- ---- the ranges of a well-formed ledger
 
 -- an amendment: "A clear flag has three zero days, only a fixed contract has it set"
-unfoldable pub badAmendment : (kind flag originalEnd priceFixDay entryDay : ℕ) → Bool
+unfoldable pub badAmendment : (kind flag originalEndDay priceFixDay entryDay : ℕ) → Bool
 badAmendment kind flag end fix entry = cond (eqb flag 0) (not (eqb end 0 && (eqb fix 0 && eqb entry 0))) (ltb 1 flag || (not (eqb kind 0) || badAmendmentDays end fix entry))
 
 -- an open contract, by its numbers
@@ -141,7 +141,7 @@ contractTests t v =
     ∷ not (badDays (kindIn v) (priceFixDayIn v) (entryDayIn v))
     ∷ not (badClass (classIn v))
     ∷ not (badEffective (classIn v) (effectiveDayIn v))
-    ∷ not (badAmendment (kindIn v) (amendmentFlagIn v) (originalEndIn v) (amendedPriceFixDayIn v) (amendedEntryDayIn v))
+    ∷ not (badAmendment (kindIn v) (amendmentFlagIn v) (originalEndDayIn v) (amendedPriceFixDayIn v) (amendedEntryDayIn v))
     ∷ []
 
 unfoldable pub contractRanges : (territory : ℕ) → (numbers : List ℕ) → Bool

@@ -33,7 +33,7 @@ heldBill kind first last kwh etii qhs reference supply kept =
     record { kind = kind; amendment = Unamended; first = first; last = last; kwh = kwh; etii = etii; qhs = qhs; reference = reference; supply = supply; kept = kept }
 
 -- a held row of a fixed contract that is amended with that original end
-abbrev pub amendedBill : (originalEnd first last : ℕ) → Bool → HeldBill
+abbrev pub amendedBill : (originalEndDay first last : ℕ) → Bool → HeldBill
 amendedBill end first last kept =
     record { kind = Fixed 0 0; amendment = Amended end 0 0; first = first; last = last; kwh = 1; etii = 0; qhs = 0; reference = 1; supply = 1; kept = kept }
 
@@ -85,11 +85,11 @@ keepsRanges e = billOk
 abbrev pub unamended : List ℕ → List ℕ
 unamended numbers = numbers ++ (0 ∷ 0 ∷ 0 ∷ 0 ∷ [])
 
-abbrev pub amendedFixed : (flag originalEnd priceFixDay entryDay : ℕ) → List ℕ
+abbrev pub amendedFixed : (flag originalEndDay priceFixDay entryDay : ℕ) → List ℕ
 amendedFixed flag end fix entry = 0 ∷ 0 ∷ 851 ∷ 851 ∷ 0 ∷ 0 ∷ flag ∷ end ∷ fix ∷ entry ∷ []
 
 unfoldable pub contractsInRange : List (List ℕ)
-contractsInRange = amendedFixed 1 486 0 0 ∷ amendedFixed 1 851 851 851 ∷ map unamended (
+contractsInRange = amendedFixed 1 486 0 0 ∷ amendedFixed 1 851 851 851 ∷ amendedFixed 1 486 851 0 ∷ amendedFixed 1 486 0 851 ∷ map unamended (
     (1 ∷ 0 ∷ 851 ∷ 851 ∷ 0 ∷ 0 ∷ [])
     ∷ (0 ∷ 1 ∷ 0 ∷ 0 ∷ 1 ∷ 486 ∷ [])
     ∷ (0 ∷ 2 ∷ 0 ∷ 0 ∷ 2 ∷ 511 ∷ [])
@@ -137,4 +137,5 @@ pub record RangesKept : Type 0 where
   pub in-range : map (contractRanges 0) contractsInRange ≡ map (λ _. true) contractsInRange
   pub out-of-range : map (contractRanges 0) contractsOutOfRange ≡ map (λ _. false) contractsOutOfRange
   pub index-in-northern-ireland : contractRanges 1 (unamended (0 ∷ 3 ∷ 0 ∷ 0 ∷ 0 ∷ 0 ∷ [])) ≡ true
+  pub amended-index : contractRanges 1 (0 ∷ 3 ∷ 0 ∷ 0 ∷ 0 ∷ 0 ∷ 1 ∷ 486 ∷ 0 ∷ 0 ∷ []) ≡ false
   pub gas-index : contractRanges 1 (unamended (1 ∷ 3 ∷ 0 ∷ 0 ∷ 0 ∷ 0 ∷ [])) ≡ false

@@ -18,7 +18,7 @@ use Rattle.model.specs.Ledger.{Ledger, withRows}
 use Rattle.model.specs.History.{stateAfter, ledgerMachine}
 use Rattle.model.specs.WellFormed.{WellFormed}
 
--- the rules in force with another amount; with the earlier one they ask of a ledger what was asked before
+-- the rules in force with another amount; with the earlier one they ask of amounts what was asked before
 abbrev pub rulesWith : (amount : Terms → Bill → ℕ) → Rules
 rulesWith amount = record {
   contractLimit = presentRules .contractLimit;

@@ -46,7 +46,7 @@ pub enum Call {
     Total,
     Amend {
         contract: u32,
-        original_end: u32,
+        original_end_day: u32,
         price_fix_day: u32,
         entry_day: u32,
     },

@@ -35,7 +35,7 @@ pub enum Certificate {
 pub enum Amendment {
     Unamended,
     Amended {
-        original_end: u32,
+        original_end_day: u32,
         price_fix_day: u32,
         entry_day: u32,
     },
@@ -206,11 +206,11 @@ pub fn kind_taken(amendment: Amendment, kind: Kind, first: u32) -> Kind
     match amendment {
         Amendment::Unamended => kind,
         Amendment::Amended {
-            original_end,
+            original_end_day,
             price_fix_day,
             entry_day,
         } => {
-            if original_end < first {
+            if original_end_day < first {
                 Kind::Fixed {
                     price_fix_day,
                     entry_day,

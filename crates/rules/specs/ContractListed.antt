@@ -12,7 +12,7 @@ listed n =
     ∷ n .class
     ∷ n .«effective_day»
     ∷ n .«amendment_flag»
-    ∷ n .«original_end»
+    ∷ n .«original_end_day»
     ∷ n .«amended_price_fix_day»
     ∷ n .«amended_entry_day»
     ∷ []

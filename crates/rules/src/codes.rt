@@ -7,7 +7,7 @@ use rates::Kind;
 ghost use mathlib.Core.Path.{_≡_};
 ghost use Rattle.model.specs.ContractNumbers.{contractOfNumbers};
 ghost use Rattle.rules.specs.ContractListed.{listed};
-ghost use Rattle.model.specs.Codes.{fuelOf, fuelCode, kindOf, kindCode, priceFixDay, entryDay, isFixed, isFlexible, isMonthly, certificateOf, classCode, effectiveDay, amendmentOf, amendmentFlag, originalEnd, amendedPriceFixDay, amendedEntryDay, isAmended};
+ghost use Rattle.model.specs.Codes.{fuelOf, fuelCode, kindOf, kindCode, priceFixDay, entryDay, isFixed, isFlexible, isMonthly, certificateOf, classCode, effectiveDay, amendmentOf, amendmentFlag, originalEndDay, amendedPriceFixDay, amendedEntryDay, isAmended};
 
 // The numbers that stand for a contract, in the papers' order.
 pub struct ContractNumbers {
@@ -18,7 +18,7 @@ pub struct ContractNumbers {
     pub class: u32,
     pub effective_day: u32,
     pub amendment_flag: u32,
-    pub original_end: u32,
+    pub original_end_day: u32,
     pub amended_price_fix_day: u32,
     pub amended_entry_day: u32,
 }
@@ -171,14 +171,19 @@ pub fn effective_day(certificate: Certificate) -> u32
     }
 }
 
-pub fn amendment_of(flag: u32, original_end: u32, price_fix_day: u32, entry_day: u32) -> Amendment
-    ensures { λ r. ⌜ r ≡ amendmentOf flag «original_end» «price_fix_day» «entry_day» ⌝ }
+pub fn amendment_of(
+    flag: u32,
+    original_end_day: u32,
+    price_fix_day: u32,
+    entry_day: u32,
+) -> Amendment
+    ensures { λ r. ⌜ r ≡ amendmentOf flag «original_end_day» «price_fix_day» «entry_day» ⌝ }
 {
     if flag == 0 {
         Amendment::Unamended
     } else {
         Amendment::Amended {
-            original_end,
+            original_end_day,
             price_fix_day,
             entry_day,
         }
@@ -191,23 +196,23 @@ pub fn amendment_flag(amendment: Amendment) -> u32
     match amendment {
         Amendment::Unamended => 0,
         Amendment::Amended {
-            original_end: _,
+            original_end_day: _,
             price_fix_day: _,
             entry_day: _,
         } => 1,
     }
 }
 
-pub fn original_end(amendment: Amendment) -> u32
-    ensures { λ r. ⌜ r ≡ originalEnd amendment ⌝ }
+pub fn original_end_day(amendment: Amendment) -> u32
+    ensures { λ r. ⌜ r ≡ originalEndDay amendment ⌝ }
 {
     match amendment {
         Amendment::Unamended => 0,
         Amendment::Amended {
-            original_end,
+            original_end_day,
             price_fix_day: _,
             entry_day: _,
-        } => original_end,
+        } => original_end_day,
     }
 }
 
@@ -217,7 +222,7 @@ pub fn amended_price_fix_day(amendment: Amendment) -> u32
     match amendment {
         Amendment::Unamended => 0,
         Amendment::Amended {
-            original_end: _,
+            original_end_day: _,
             price_fix_day,
             entry_day: _,
         } => price_fix_day,
@@ -230,7 +235,7 @@ pub fn amended_entry_day(amendment: Amendment) -> u32
     match amendment {
         Amendment::Unamended => 0,
         Amendment::Amended {
-            original_end: _,
+            original_end_day: _,
             price_fix_day: _,
             entry_day,
         } => entry_day,
@@ -243,7 +248,7 @@ pub fn is_amended(amendment: Amendment) -> bool
     match amendment {
         Amendment::Unamended => false,
         Amendment::Amended {
-            original_end: _,
+            original_end_day: _,
             price_fix_day: _,
             entry_day: _,
         } => true,
@@ -260,7 +265,7 @@ pub fn contract_of(numbers: ContractNumbers) -> Contract
         certificate: certificate_of(numbers.class, numbers.effective_day),
         amendment: amendment_of(
             numbers.amendment_flag,
-            numbers.original_end,
+            numbers.original_end_day,
             numbers.amended_price_fix_day,
             numbers.amended_entry_day,
         ),

@@ -80,13 +80,13 @@ pub fn bad_effective(class: u32, effective_day: u32) -> bool
 }
 
 // An original end is no day of the scheme, or an amendment's price-fix or entry day is after the last day.
-pub fn bad_amendment_days(original_end: u32, price_fix_day: u32, entry_day: u32) -> bool
-    ensures { λ r. ⌜ r ≡ badAmendmentDays «original_end» «price_fix_day» «entry_day» ⌝ }
+pub fn bad_amendment_days(original_end_day: u32, price_fix_day: u32, entry_day: u32) -> bool
+    ensures { λ r. ⌜ r ≡ badAmendmentDays «original_end_day» «price_fix_day» «entry_day» ⌝ }
 {
-    if original_end < FIRST_SCHEME_DAY {
+    if original_end_day < FIRST_SCHEME_DAY {
         return true;
     }
-    if LAST_DAY < original_end {
+    if LAST_DAY < original_end_day {
         return true;
     }
     if LAST_DAY < price_fix_day {
@@ -140,12 +140,12 @@ pub fn crosses_end(amendment: Amendment, first: u32, last: u32) -> bool
     match amendment {
         Amendment::Unamended => false,
         Amendment::Amended {
-            original_end,
+            original_end_day,
             price_fix_day: _,
             entry_day: _,
         } => {
-            if first <= original_end {
-                return original_end < last;
+            if first <= original_end_day {
+                return original_end_day < last;
             }
             false
         }
@@ -183,14 +183,14 @@ pub fn bad_shares(kwh: u32, etii: u32, qhs: u32) -> bool
 fn bad_amendment(
     kind: u32,
     flag: u32,
-    original_end: u32,
+    original_end_day: u32,
     price_fix_day: u32,
     entry_day: u32,
 ) -> bool
-    ensures { λ r. ⌜ r ≡ badAmendment kind flag «original_end» «price_fix_day» «entry_day» ⌝ }
+    ensures { λ r. ⌜ r ≡ badAmendment kind flag «original_end_day» «price_fix_day» «entry_day» ⌝ }
 {
     if flag == 0 {
-        if original_end != 0 {
+        if original_end_day != 0 {
             return true;
         }
         if price_fix_day != 0 {
@@ -204,7 +204,7 @@ fn bad_amendment(
     if kind != 0 {
         return true;
     }
-    bad_amendment_days(original_end, price_fix_day, entry_day)
+    bad_amendment_days(original_end_day, price_fix_day, entry_day)
 }
 
 // The numbers of an open contract keep the ranges.
@@ -226,7 +226,7 @@ pub fn contract_ranges(territory: u32, numbers: ContractNumbers) -> bool
     !bad_amendment(
         numbers.kind,
         numbers.amendment_flag,
-        numbers.original_end,
+        numbers.original_end_day,
         numbers.amended_price_fix_day,
         numbers.amended_entry_day,
     )

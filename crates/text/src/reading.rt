@@ -160,7 +160,7 @@ fn command_at(place: usize, n: [u32; MOST_NUMBERS]) -> Command
         8 => Command::OnLedger(Call::Total),
         9 => Command::OnLedger(Call::Amend {
             contract: a,
-            original_end: b,
+            original_end_day: b,
             price_fix_day: c,
             entry_day: d,
         }),

@@ -1,4 +1,4 @@
--- `with_new_minimum` gives the kWh with the new minimum: none where the bill ends before day 792 or was entered early, else those from day 792 on.
+-- `with_new_minimum` gives the kWh with the new minimum: none where the bill ends before day 792, or its terms are of a contract entered early, else those from day 792 on.
 use mathlib.Core.Path.{ap, _∙_}
 use Rattle.rates.specs.declared.Kind.{Kind}
 use Rattle.rates.specs.Rates.{enteredEarly}
