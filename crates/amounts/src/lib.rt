@@ -1,4 +1,7 @@
 // A bill's amount and the rate that it answers: the kWh of its shares spread over its days, each day's at the rate of its class.
+
+#![tactic(auto)]
+
 ghost use Rattle.std.specs.Prelude.{◌≡◌, true, false, ◌+◌, ◌*◌, ◌≤◌, eqb};
 ghost use Rattle.limits.specs.Limits.{most_kwh_stored, highest_price};
 ghost use Rattle.rates.specs.Rates.{class_rate};

@@ -1,4 +1,7 @@
 // The calls bill, rebill and cancel on a well-formed ledger.
+
+#![tactic(auto)]
+
 mod rows;
 
 ghost use Rattle.model.specs.declared.Call.{Call};

@@ -1,4 +1,7 @@
 // What turns a bill or a rebill down: its request, and then its row among the held rows.
+
+#![tactic(auto)]
+
 ghost use Rattle.std.specs.Prelude.{◌≡◌, not, ◌&&◌, ltb};
 ghost use Rattle.model.specs.Calls.{named, sharing};
 ghost use Rattle.layout.specs.Present.{Formed, Searched};

@@ -1,4 +1,7 @@
 // The calendar of the scheme: day numbers and dates, each from the other, and the scheme month of a day.
+
+#![tactic(auto)]
+
 mod dates;
 
 ghost use Rattle.std.specs.Prelude.{◌≡◌};

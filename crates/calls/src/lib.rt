@@ -1,4 +1,7 @@
 // Any call of a history on the packed ledger: the ledger is checked, and the call passed on.
+
+#![tactic(auto)]
+
 pub mod replies;
 
 ghost use Rattle.model.specs.Calls.{◌with◌};

@@ -1,4 +1,7 @@
 // The calls claim, report and total.
+
+#![tactic(auto)]
+
 ghost use Rattle.std.specs.Prelude.{◌≡◌, [], ◌<◌};
 ghost use Rattle.limits.specs.Limits.{contract_count};
 ghost use Rattle.model.specs.declared.Call.{Call};

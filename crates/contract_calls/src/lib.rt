@@ -1,4 +1,7 @@
 // The calls that start a ledger, open a contract, replace a contract's certificate and amend a contract.
+
+#![tactic(auto)]
+
 mod contracts;
 mod refusals;
 mod rerating;

@@ -1,4 +1,7 @@
 // The program: it reads standard input, and writes what the session prints of it. Where it can't, it says so on standard error.
+
+#![tactic(auto)]
+
 use input::{Input, read_input};
 use libc::{STDERR_FILENO, STDOUT_FILENO};
 use session::{MOST_INPUT, MOST_OUTPUT};

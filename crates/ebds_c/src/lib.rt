@@ -1,5 +1,8 @@
 // The calls for C: each takes the ledger, the book where document 01 has one, the call's numbers in the papers' order, and room for the
 // numbers of the answer; it returns the number of the refusal, 0 where the call is accepted. Nothing is required of the bytes.
+
+#![tactic(auto)]
+
 mod answers;
 
 ghost use Rattle.std.specs.Prelude.{◌≡◌, []};

@@ -1,4 +1,7 @@
 // Edits of the packed ledger's bytes: a row is inserted, removed or replaced, a contract is written, and a fresh ledger is made.
+
+#![tactic(auto)]
+
 ghost use Rattle.std.specs.Prelude.{◌≡◌, ◌+◌, ◌*◌, ◌^◌, ◌≤◌, ◌<◌, length};
 ghost use Rattle.limits.specs.Limits.{contract_count, row_count};
 ghost use Rattle.fields.specs.Fields.{Fit};

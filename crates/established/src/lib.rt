@@ -1,1 +1,4 @@
 // What is established of the product, gathered under one statement. This crate is mathematics: specs/ and proofs/.
+
+#![tactic(auto)]
+

@@ -1,4 +1,7 @@
 // Packed fields: reads and writes a field of 1 to 57 bits at any bit offset of lent bytes, most significant bit first.
+
+#![tactic(auto)]
+
 mod word;
 
 ghost use Rattle.std.specs.Prelude.{◌≡◌, ◌+◌, ◌*◌, ◌^◌, ◌<◌, ◌≤◌, length};

@@ -1,4 +1,7 @@
 // Standard input, read to its end or until the buffer is full. A read that fails is told apart from the input's end.
+
+#![tactic(auto)]
+
 ghost use Rattle.std.specs.Prelude.{length};
 ghost use Rattle.input.specs.Reading.{ReadWithin};
 

@@ -1,5 +1,8 @@
 // The layout of the packed ledger. Its code is the sizes in bytes and what is read of a slot and found by a check; the rest is specs/ and
 // proofs/.
+
+#![tactic(auto)]
+
 use limits::{CONTRACT_COUNT, ROW_COUNT};
 use model::Row;
 

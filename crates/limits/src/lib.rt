@@ -1,5 +1,7 @@
 // The limits of days, prices, kWh, contracts, rows and claims, each once in the code. specs/Limits.antt has them for the statements.
 
+#![tactic(auto)]
+
 // The last day number, 31 March 2024, and how many there are from 0 on.
 pub const LAST_DAY: u32 = 851;
 

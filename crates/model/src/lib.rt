@@ -1,4 +1,7 @@
 // A held row, the calls of a history and their answers. The rest of this crate is mathematics: specs/ and proofs/.
+
+#![tactic(auto)]
+
 use amounts::Bill;
 
 // A held row: a bill that stands, with its amount in ticks.

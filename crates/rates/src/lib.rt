@@ -1,4 +1,7 @@
 // The discount per kWh: contracts, the terms that a bill takes of its contract, classes, parts and the rates of the classes.
+
+#![tactic(auto)]
+
 mod fuels;
 
 ghost use Rattle.std.specs.Prelude.{◌≡◌, ◌-◌, ◌≤◌, min, max};

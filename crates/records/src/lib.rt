@@ -1,4 +1,7 @@
 // Records of any size in lent bytes: put in, taken out, written over, and tested for zeros; and the numbers of one record.
+
+#![tactic(auto)]
+
 pub mod numbers;
 
 ghost use Rattle.std.specs.Prelude.{◌≡◌, ◌+◌, ◌≤◌, length, replicate};

@@ -1,4 +1,7 @@
 // A session of the program: the whole input to the whole output.
+
+#![tactic(auto)]
+
 mod replies;
 
 ghost use Rattle.std.specs.Prelude.{◌≡◌, ◌+◌, ◌*◌, ◌≤◌, length};
