@@ -16,7 +16,7 @@ use rates::{
 
 // A bill: its contract's number, first and last day, kWh, of these the kWh in the ETII share and in the QHS share, and the reference and
 // supply prices R and S in mils.
-#[derive(Drop)]
+#[derive(Clone, Copy)]
 pub struct Bill {
     pub contract: u32,
     pub first: u32,
@@ -29,7 +29,7 @@ pub struct Bill {
 }
 
 // A bill's kWh in each class; of QHS, with the old minimum and with the new.
-#[derive(Drop)]
+#[derive(Clone, Copy)]
 struct KwhByClass {
     baseline: u64,
     etii: u64,

@@ -18,14 +18,14 @@ use rules::book::{bad_book, bill_under, no_price};
 use rules::ranges::{bad_amounts, bad_months, bad_shares, bad_span, crosses_end};
 
 // What a bill or rebill asks for: the number that turns it down, or its bill and the contract of that bill.
-#[derive(Drop)]
+#[derive(Clone, Copy)]
 pub enum Requested {
     Refused(u32),
     Bill { contract: Contract, bill: Bill },
 }
 
 // The place of a bill's row, or the number that turns it down.
-#[derive(Drop)]
+#[derive(Clone, Copy)]
 pub enum Placed {
     Refused(u32),
     At(usize),

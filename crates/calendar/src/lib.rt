@@ -18,7 +18,7 @@ const WRONG_DAY: u32 = 7;
 const LATER_MONTHS: [u32; 11] = [516, 547, 577, 608, 639, 669, 700, 730, 761, 792, 821];
 
 // A date of the calendar.
-#[derive(Drop)]
+#[derive(Clone, Copy)]
 pub struct CalendarDate {
     pub year: u32,
     pub month: u32,
@@ -26,14 +26,14 @@ pub struct CalendarDate {
 }
 
 // What `day` answers: the day number, or the number that turns it down.
-#[derive(Drop)]
+#[derive(Clone, Copy)]
 pub enum DayAnswer {
     Day(u32),
     Refused(u32),
 }
 
 // What `date` answers: the date, or the number that turns it down.
-#[derive(Drop)]
+#[derive(Clone, Copy)]
 pub enum DateAnswer {
     Date(CalendarDate),
     Refused(u32),

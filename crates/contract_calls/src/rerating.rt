@@ -6,7 +6,7 @@ use ledger::rows::{first_reaching, row_at};
 use rates::Contract;
 
 // What re-rating finds: the sums of the old and of the new amounts, and how many of the amounts changed.
-#[derive(Drop)]
+#[derive(Clone, Copy)]
 pub struct Rerated {
     pub old: u64,
     pub new: u64,

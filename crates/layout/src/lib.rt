@@ -22,14 +22,14 @@ pub const ROW_LENGTH: usize = 25;
 pub const LEDGER_LENGTH: usize = FIRST_ROW + ROW_COUNT * ROW_LENGTH;
 
 // What a well-formed check finds: how many rows are held, and the sum of their amounts.
-#[derive(Drop)]
+#[derive(Clone, Copy)]
 pub enum Checked {
     Malformed,
     WellFormed { rows: u32, due: u64 },
 }
 
 // What is read of a row's slot: it is free; or one of the bits that must stay zero is not; or the row that it holds.
-#[derive(Drop)]
+#[derive(Clone, Copy)]
 pub enum RowSlot {
     Free,
     Bad,

@@ -14,7 +14,7 @@ use limits::CONTRACT_COUNT;
 use rates::Contract;
 
 // What a contract's slot holds: nothing, as the number isn't open, or the contract.
-#[derive(Drop)]
+#[derive(Clone, Copy)]
 pub enum ContractSlot {
     Closed,
     Open(Contract),

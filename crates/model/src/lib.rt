@@ -5,14 +5,14 @@
 use amounts::Bill;
 
 // A held row: a bill that stands, with its amount in ticks.
-#[derive(Drop)]
+#[derive(Clone, Copy)]
 pub struct Row {
     pub bill: Bill,
     pub amount: u64,
 }
 
 // The numbers of a bill or rebill, the last two the kWh in the ETII share and in the QHS share.
-#[derive(Drop)]
+#[derive(Clone, Copy)]
 pub struct Request {
     pub contract: u32,
     pub first: u32,
@@ -25,7 +25,7 @@ pub struct Request {
 }
 
 // A call of a history, with its numbers.
-#[derive(Drop)]
+#[derive(Clone, Copy)]
 pub enum Call {
     Open {
         contract: u32,
@@ -59,7 +59,7 @@ pub enum Call {
 }
 
 // What a call answers: the number of a refusal, or the call's numbers.
-#[derive(Drop)]
+#[derive(Clone, Copy)]
 pub enum Answer {
     Refused(u32),
     Done,
@@ -100,7 +100,7 @@ pub const ANSWER_NUMBERS: usize = 3;
 
 // The reply of an answer: the number of the refusal, 0 where the call is accepted; how many numbers it has, and those in the
 // paper's order, zeros after them.
-#[derive(Drop)]
+#[derive(Clone, Copy)]
 pub struct Reply {
     pub refused: u32,
     pub count: usize,

@@ -13,14 +13,14 @@ use fuels::{Electricity, Gas};
 use limits::NEW_MINIMUM_DAY;
 
 // Fuel: 0 electricity, 1 gas.
-#[derive(Drop)]
+#[derive(Clone, Copy)]
 pub enum Fuel {
     Electricity,
     Gas,
 }
 
 // Kind: 0 fixed, with its price-fix day and its day of entry; 1 variable; 2 flexible; 3 day-ahead index.
-#[derive(Drop)]
+#[derive(Clone, Copy)]
 pub enum Kind {
     Fixed { price_fix_day: u32, entry_day: u32 },
     Variable,
@@ -29,7 +29,7 @@ pub enum Kind {
 }
 
 // A certificate: class 0 none, 1 ETII, 2 QHS, with its effective day.
-#[derive(Drop)]
+#[derive(Clone, Copy)]
 pub enum Certificate {
     None,
     Etii { effective_day: u32 },
@@ -37,7 +37,7 @@ pub enum Certificate {
 }
 
 // An amendment of a fixed contract: its original end day, and the price-fix day and the day of entry of bills that start after it.
-#[derive(Drop)]
+#[derive(Clone, Copy)]
 pub enum Amendment {
     Unamended,
     Amended {
@@ -47,7 +47,7 @@ pub enum Amendment {
     },
 }
 
-#[derive(Drop)]
+#[derive(Clone, Copy)]
 pub struct Contract {
     pub fuel: Fuel,
     pub kind: Kind,
@@ -56,7 +56,7 @@ pub struct Contract {
 }
 
 // The terms that a bill takes of its contract, of a fixed kind with one pair of days.
-#[derive(Drop)]
+#[derive(Clone, Copy)]
 pub struct Terms {
     pub fuel: Fuel,
     pub kind: Kind,
@@ -64,7 +64,7 @@ pub struct Terms {
 }
 
 // The class of a day; of QHS, with the minimum that applies.
-#[derive(Drop)]
+#[derive(Clone, Copy)]
 pub enum Class {
     Baseline,
     Etii,
@@ -73,7 +73,7 @@ pub enum Class {
 }
 
 // The prices of a class of a fuel, in mils. Of QHS there is a minimum alone.
-#[derive(Drop)]
+#[derive(Clone, Copy)]
 pub enum Prices {
     Limited {
         support: u32,

@@ -7,7 +7,7 @@ ghost use Rattle.model.specs.Codes.{fuel_of, fuel_code, kind_of, kind_code, pric
 use rates::{Amendment, Certificate, Contract, Fuel, Kind};
 
 // The numbers that stand for a contract, in the papers' order.
-#[derive(Drop)]
+#[derive(Clone, Copy)]
 pub struct ContractNumbers {
     pub fuel: u32,
     pub kind: u32,

@@ -4,7 +4,7 @@ ghost use Rattle.text.specs.Bytes.{space};
 ghost use Rattle.text.specs.Pieces.{PieceEnds, pieces, same_text, place_from};
 
 // The place of a word among words, counted from 0.
-#[derive(Drop)]
+#[derive(Clone, Copy)]
 pub enum Found {
     At(usize),
     Nowhere,

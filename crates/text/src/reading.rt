@@ -9,7 +9,7 @@ use crate::pieces::{Found, find, find_word};
 use model::{Call, Request};
 
 // What a line asks for.
-#[derive(Drop)]
+#[derive(Clone, Copy)]
 pub enum Command {
     Start { territory: u32 },
     // A call of a history on the ledger.
@@ -22,14 +22,14 @@ pub enum Command {
 }
 
 // The value of a word's digits.
-#[derive(Drop)]
+#[derive(Clone, Copy)]
 pub enum Decimal {
     Value(u64),
     NotDecimal,
 }
 
 // A word read as a number.
-#[derive(Drop)]
+#[derive(Clone, Copy)]
 pub enum Parsed {
     Value(u32),
     NotNumber,
