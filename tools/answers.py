@@ -99,8 +99,11 @@ class Paths:
 
     def __init__(self, lts, said):
         self.places = {p[0]: p for p in lts["places"]}
+        self.new_names = dict(zip(self.places, lts["places_by_name"]))
         # what is known of the elements of a slice, by the place from which it is read: the step that told it last
         self.typed = {p[0]: {norm(step): var for var, step in t} for p, t in zip(lts["places"], lts["typed"])}
+        # what a match told, by the place: the arm's name, and its fields with the older step and path
+        self.arms = {p[0]: a for p, a in zip(lts["places"], lts["arms"]) if a}
         self.asked = None
         self.said = said
 
@@ -120,6 +123,14 @@ class Paths:
         typed = self.typed.get(self.asked, {})
         if step in typed and len(rest) > 1 and rest[1] == "given":
             return place, ["type_inv", typed[step]] + rest[2:]
+        at, best = self.asked, None
+        while at is not None:
+            for field, was, path in self.arms.get(at, (None, 0, []))[2]:
+                if norm(was) == step and path and rest[1 : 1 + len(path)] == path and (best is None or len(path) > best[0]):
+                    best = (len(path), [self.arms[at][0], field] + rest[1 + len(path) :])
+            at = self.places[at][1]
+        if best:
+            return place, best[1]
         for at in (place, self.asked):
             while at is not None:
                 _, before, names, _, _ = self.places[at]
@@ -163,10 +174,22 @@ class Paths:
 
         return chain.sub(one, text)
 
+    def helper(self, b):
+        """A helper about the facts known at a place."""
+        m = re.match(r"\(c : (?:tie|lts)\.(" + WORD + r")((?: (?:invariant|decreases)-" + WORD + r")*)\) → (.*)", b.type, re.S)
+        place = m and next((n for n in self.places if norm(n) == norm(m[1])), None)
+        params, body = body_of(b)
+        if not place or params is None:
+            return b.text()
+        self.said(f"look: the helper {b.name} speaks of a place")
+        head = b.lines[0][: b.lines[0].index(" : ")]
+        new = self.new_names[place]
+        return "\n".join(b.comment + [f"{head} : (c : goal.{new}) → {self.turn(m[3], place)}"] + b.unfolding + [f"{b.name} {' '.join(params)} ={self.turn(body, place)}"])
+
 
 def body_of(block):
     """The parameters and the body of a block with one clause `name params = body`."""
-    m = re.match(re.escape(block.name) + r"((?: " + WORD + r")*) =(\s)", block.body)
+    m = re.match(re.escape(block.name) + r"((?: (?!=)" + WORD + r")*?) =(\s)", block.body)
     if not m:
         return None, None
     return m[1].split(), block.body[m.end() - 1 :]
@@ -263,7 +286,7 @@ def turn_function(crate, folder, names):
     if answers or helpers:
         out = comment + uses + [f"use Rattle.{crate}.proofs.{module}.Goals as goal", ""]
         for b in helpers:
-            out += [b.text(), ""]
+            out += [paths.helper(b), ""]
         with open(os.path.join(folder, "Answers.antt"), "w", encoding="utf-8") as f:
             f.write("\n".join(out + answers))
     os.remove(path)
