@@ -274,8 +274,8 @@ def turn_function(crate, folder, names):
                 left.append(f"an argument {a[:60]}")
                 answers += [f"-- left: {new}: {a}", ""]
                 continue
-            comment_, unfolding, body = [], [], " " + m[1].strip()
-        if TRIVIAL.match(body) and not unfolding:
+            comment_, unfolding, body = [], spec.unfolding, " " + m[1].strip()
+        if TRIVIAL.match(body) and not (unfolding and new.startswith("returns")):
             continue
         answers += comment_ + [f"pub {new} : goal.{new}"] + unfolding + [f"{new} c ={paths.turn(body, place[0])}", ""]
     used = set(args) | {spec.name}

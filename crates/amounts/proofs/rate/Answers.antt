@@ -11,8 +11,7 @@ use Rattle.amounts.specs.declared.Bill.{Bill}
 use Rattle.amounts.specs.Amounts.{has_shares, rate, by_terms}
 use Rattle.amounts.proofs.Shares.{certificate-kept, set_aside}
 use borrow.Author.Rules.{rules}
-use Rattle.amounts.proofs.rate.Statement.{statement}
-use Rattle.amounts.proofs.rate.Tie as tie
+use Rattle.amounts.proofs.rate.Goals as goal
 
 -- without shares, by the terms and the class that were found
 without_shares : (contract : Contract) (bill : Bill) (terms : Terms) (class : Class) (r : ℕ) → has_shares bill ≡ false → terms ≡ terms_for contract bill.first → class ≡ class_of terms bill.first
@@ -22,26 +21,11 @@ without_shares contract bill terms class r none taken is-class at-rate =
     rw (certificate-kept (terms_for contract bill.first) bill none)
     (at-rate ∙ ap (λ (c : Class). class_rate contract.fuel c bill.reference bill.supply) (is-class ∙ ap (λ (t : Terms). class_of t bill.first) taken))
 
-returns : tie.Need-returns
+pub returns-then-has_shares : goal.returns-then-has_shares
 unfolding rate terms_for
+returns-then-has_shares c =
+    rw (set_aside (terms_for c.args.contract c.args.bill.first) c.args.bill (sym c.has_shares.ensures ∙ c.if-has_shares.true)) c.class_rate.ensures
+
+pub returns : goal.returns
 returns c =
-    let start = c.before.before.before in
-    rw (set_aside (terms_for start.args.contract start.args.bill.first) start.args.bill (sym c.before.before.has-shares.ensures ∙ c.before.if1.true)) c.class-rate.ensures
-
-returns-2 : tie.Need-returns-2
-returns-2 c =
-    let taken = c.before.before in
-    let found = taken.before.before in
-    without_shares found.before.args.contract found.before.args.bill _ _ _ (sym found.has-shares.ensures ∙ taken.before.if1.false) taken.terms-for.ensures c.before.class_of.ensures c.class-rate2.ensures
-
-pub rate-spec : {M : Type 1} → statement M
-rate-spec =
-    tie.close
-    (tie.spec
-    (λ c κs. search rules)
-    (λ c κs. search rules)
-    returns
-    (λ c κs. search rules)
-    (λ c κs. search rules)
-    (λ c κs. search rules)
-    returns-2)
+    without_shares c.args.contract c.args.bill _ _ _ (sym c.has_shares.ensures ∙ c.if-has_shares.false) c.terms_for.ensures c.class_of.ensures c.class_rate-2.ensures

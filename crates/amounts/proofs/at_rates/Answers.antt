@@ -9,8 +9,7 @@ use Rattle.amounts.specs.declared.KwhByClass.{KwhByClass}
 use Rattle.amounts.specs.Amounts.{rate_of, amount}
 use Rattle.amounts.specs.KwhFound.{KwhOf}
 use borrow.Author.Rules.{rules}
-use Rattle.amounts.proofs.at_rates.Statement.{statement}
-use Rattle.amounts.proofs.at_rates.Tie as tie
+use Rattle.amounts.proofs.at_rates.Goals as goal
 
 four-amounts : (terms : Terms) (bill : Bill) (k : KwhByClass) (baseline etii old new : ℕ) → KwhOf terms bill k
     → baseline ≡ k.baseline * rate_of terms bill Baseline → etii ≡ k.etii * rate_of terms bill Etii → old ≡ k.old * rate_of terms bill QhsOld → new ≡ k.new * rate_of terms bill QhsNew
@@ -18,22 +17,7 @@ four-amounts : (terms : Terms) (bill : Bill) (k : KwhByClass) (baseline etii old
 unfolding amount
 four-amounts terms bill k baseline etii old new of e f g h = rw (e, f, g, h) (sym (of.priced (rate_of terms bill)))
 
-returns : tie.Need-returns
+pub returns : goal.returns
 unfolding terms_for
 returns c =
-    let third = c.before.before in
-    let start = third.before.before in
-    four-amounts (terms_for start.args.contract start.args.bill.first) start.args.bill start.args.kwh _ _ _ _ start.requires.1 third.before.at-rate.ensures.0 third.at-rate2.ensures.0 c.before.at-rate3.ensures.0 c.at-rate4.ensures.0
-
-pub at-rates-spec : {M : Type 1} → statement M
-at-rates-spec =
-    tie.close
-    (tie.spec
-    (λ c κs. search rules)
-    (λ c κs. search rules)
-    (λ c κs. search rules)
-    (λ c κs. search rules)
-    (λ c. search rules)
-    (λ c. search rules)
-    (λ c. search rules)
-    returns)
+    four-amounts (terms_for c.args.contract c.args.bill.first) c.args.bill c.args.kwh _ _ _ _ c.requires.1 c.at_rate-baseline.ensures.0 c.at_rate-etii.ensures.0 c.at_rate-old.ensures.0 c.at_rate-new.ensures.0
