@@ -32,6 +32,7 @@ rest-small : (d p : ℕ) → p ≡ d / ticks_per_penny → (u : ℕ) × (sub_ℕ
 rest-small d p e = (d - ticks_per_penny * p, sub-ge d (ticks_per_penny * p) (omega arith), omega arith)
 
 all-mem : {A : Type 0} (P : A → Type 0) (xs : List A) → All P xs → (x : A) → Memᴰ x xs → P x
+all-mem P [] a x m = elim m [ ]
 all-mem P (y ∷ xs) a x (Memᴰ.head e) = rw e a.0
 all-mem P (y ∷ xs) a x (Memᴰ.tail m) = all-mem P xs a.1 x m
 

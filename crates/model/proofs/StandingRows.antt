@@ -46,6 +46,7 @@ equal-path x y e = ap row_of_numbers (same-path (numbers_of_row x) (numbers_of_r
 
 module _ {A : Type 0} (p : A → Bool) where
   pub counted : (a : A) (xs : List A) → Memᴰ a xs → p a ≡ true → 0 < count p xs
+  counted a [] m h = elim m [ ]
   counted a (x ∷ xs) (Memᴰ.head e) h = rw (← e, h) (omega arith)
   counted a (x ∷ xs) (Memᴰ.tail m) h = let z : 0 < count p xs = counted a xs m h in omega arith
 
