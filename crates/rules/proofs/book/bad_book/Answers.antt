@@ -1,0 +1,18 @@
+-- `bad_book` is the test of a book: its length, and the highest of its entries.
+use Prim.Native.Nat.{◌-◌}
+use lib.ListN.{length}
+use Rattle.rules.proofs.Books.{HighestTo, book-length, highest-none, highest-next, book-tested}
+use borrow.Author.Rules.{rules}
+use Rattle.rules.proofs.book.bad_book.Goals as goal
+
+pub returns-then-book-ne-BOOK_LENGTH : goal.returns-then-book-ne-BOOK_LENGTH
+returns-then-book-ne-BOOK_LENGTH c = search book-length
+
+pub loop-i-init : goal.loop-i-init
+loop-i-init c = highest-none _
+
+pub loop-i-preserved : goal.loop-i-preserved
+loop-i-preserved c = search highest-next
+
+pub returns : goal.returns
+returns c = search book-tested

@@ -1,0 +1,15 @@
+-- `kind_of` makes the kind of its numbers: by the code.
+use Rattle.basics.proofs.TestChains.{tests}
+use Rattle.rules.proofs.codes.kind_of.Goals as goal
+
+pub returns-in-0 : goal.returns-in-0
+returns-in-0 c = simp c.in-0.is
+
+pub returns-in-1 : goal.returns-in-1
+returns-in-1 c = simp c.in-1.is
+
+pub returns-in-2 : goal.returns-in-2
+returns-in-2 c = simp c.in-2.is
+
+pub returns-in_default : goal.returns-in_default
+returns-in_default c = search tests
