@@ -3,11 +3,7 @@ use borrow.Author.Rules.{rules}
 use lib.ListN.{get_or-map}
 use Rattle.text.specs.Commands.{Form, forms}
 use Rattle.text.specs.ReadingSteps.{no_form}
-use Rattle.text.proofs.reading.count_at.Statement.{statement}
-use Rattle.text.proofs.reading.count_at.Tie as tie
+use Rattle.text.proofs.reading.count_at.Goals as goal
 
-returns : tie.Need-returns
+pub returns : goal.returns
 returns c = get_or-map (λ (f : Form). f.count) forms c.args.place no_form
-
-pub count-at-spec : {M : Type 1} → statement M
-count-at-spec = tie.close (tie.spec (λ c. search rules) (λ c. search rules) returns)
