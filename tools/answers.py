@@ -135,7 +135,8 @@ class Paths:
             while at is not None:
                 _, before, names, _, _ = self.places[at]
                 if norm(names[0]) == step and names[0]:
-                    return place, [names[1]] + rest[1:]
+                    tail = [{"taken": "true", "left": "false"}.get(f, f) for f in rest[1:2]] + rest[2:]
+                    return place, [names[1]] + tail
                 at = before
         if step not in ("args", "requires", "ranges", "lifetimes", "well_formed", "ensures", "type_inv"):
             self.said("no step " + rest[0])

@@ -4,9 +4,8 @@ use Rattle.records.specs.Pack.{unpack}
 use Rattle.records.specs.OneSlot.{slot_numbers}
 use Rattle.records.proofs.SlotTests.{zeros-set}
 use borrow.Author.Rules.{rules}
-use Rattle.codec.proofs.contracts.padding_set.Statement.{statement}
-use Rattle.codec.proofs.contracts.padding_set.Tie as tie
+use Rattle.codec.proofs.rows.padding_set.Goals as goal
 
-pub padding-set-spec : {M : Type 1} → statement M
+pub returns : goal.returns
 unfolding slot_numbers unpack fields
-padding-set-spec = tie.close (tie.spec (λ c κs. search rules) (λ c. search zeros-set))
+returns c = search zeros-set

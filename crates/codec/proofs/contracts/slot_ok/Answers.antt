@@ -1,0 +1,13 @@
+-- `slot_ok` is the test of a slot: by its padding and its first bit.
+use Rattle.records.proofs.SlotTests.{slot-tests}
+use borrow.Author.Rules.{rules}
+use Rattle.codec.proofs.contracts.slot_ok.Goals as goal
+
+pub returns-then-padding_set : goal.returns-then-padding_set
+returns-then-padding_set c = search slot-tests
+
+pub returns-then-is_open : goal.returns-then-is_open
+returns-then-is_open c = search slot-tests
+
+pub returns : goal.returns
+returns c = search slot-tests
