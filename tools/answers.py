@@ -99,6 +99,7 @@ class Paths:
 
     def __init__(self, lts, said):
         self.places = {p[0]: p for p in lts["places"]}
+        self.params = lts["params"]
         self.new_names = dict(zip(self.places, lts["places_by_name"]))
         # what is known of the elements of a slice, by the place from which it is read: the step that told it last
         self.typed = {p[0]: {norm(step): var for var, step in t} for p, t in zip(lts["places"], lts["typed"])}
@@ -133,8 +134,10 @@ class Paths:
             return place, best[1]
         for at in (place, self.asked):
             while at is not None:
-                _, before, names, _, _ = self.places[at]
+                _, before, names, callee, _ = self.places[at]
                 if norm(names[0]) == step and names[0]:
+                    if len(rest) > 2 and rest[1] == "new" and rest[2].isdigit() and callee in self.params:
+                        rest[2] = self.params[callee][int(rest[2])]
                     tail = [{"taken": "true", "left": "false"}.get(f, f) for f in rest[1:2]] + rest[2:]
                     return place, [names[1]] + tail
                 at = before
@@ -226,6 +229,16 @@ def turn_function(crate, folder, names):
     keep = [l for l in head if not re.search(r"\.(Statement|Tie|Reads|Lts)(\.\{| as|$)", l)]
     comment = [l for l in keep if l.startswith("--")]
     uses = [l for l in keep if l.startswith("use ")]
+    clash = any(l.startswith("use Rattle.") and re.search(r"[{ ]rules[,}]", l) for l in uses)
+
+    def finish(lines):
+        text = "\n".join(lines)
+        if clash:
+            text = text.replace("use borrow.Author.Rules.{rules}", "use borrow.Author.Rules.{rules as tactics}")
+            text = re.sub(r"search rules\b", "search tactics", text)
+            text = re.sub(r"search \(rules\b", "search (tactics", text)
+        return text
+
     # invariants and measures
     if inv:
         out = comment + uses + [f"use Rattle.{crate}.proofs.{module}.Given as goal", ""]
@@ -254,7 +267,7 @@ def turn_function(crate, folder, names):
             body = re.sub(r"(?<![^\s(){},;\[\]])(" + "|".join(re.escape(n) for n in names_) + r")(?![^\s(){},;.\[\]])", lambda m: to[m[1]], body)
             out += b.comment + [f"abbrev pub {kind}-{new} : goal.{kind}-{new}"] + b.unfolding + [f"{kind}-{new} l ={body}", ""]
         with open(os.path.join(folder, "Invariants.antt"), "w", encoding="utf-8") as f:
-            f.write("\n".join(out))
+            f.write(finish(out))
     # answers
     answers = []
     for a, need, place in zip(needs, lts["needs"], lts["asked_at"]):
@@ -289,7 +302,7 @@ def turn_function(crate, folder, names):
         for b in helpers:
             out += [paths.helper(b), ""]
         with open(os.path.join(folder, "Answers.antt"), "w", encoding="utf-8") as f:
-            f.write("\n".join(out + answers))
+            f.write(finish(out + answers))
     os.remove(path)
     for l in left:
         print(f"left: {path}: {l}")
