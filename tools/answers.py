@@ -176,7 +176,8 @@ class Paths:
                 return "c"
             return "c." + ".".join(new)
 
-        return chain.sub(one, text)
+        # the condition of `if !b` is told of b itself
+        return re.sub(r"\b(?:not_yes|not-no) _ (c\.if-not-" + WORD + r"\.(?:true|false))", r"\1", chain.sub(one, text))
 
     def helper(self, b):
         """A helper about the facts known at a place."""

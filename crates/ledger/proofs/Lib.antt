@@ -2,6 +2,7 @@
 -- a call answers.
 pub mod RowNumbers
 pub mod RowTests
+pub mod ContractSlots
 pub mod EachRow
 pub mod Search
 pub mod ContractRows

@@ -1,0 +1,45 @@
+-- `contracts_ok` tests each slot: those before the one at hand pass.
+use mathlib.Core.Path.{◌≡◌, sym, ap, ◌∙◌, subst}
+use mathlib.Core.Bool.{Bool, true, false}
+use mathlib.Core.List.{List}
+use Prim.Native.Nat.{ℕ, ◌+◌, ◌-◌, ◌*◌, ◌≤◌, ◌<◌}
+use native.Mathlib.Nat.{not-suc-le-zero}
+use native.Mathlib.Omega.{arith}
+use borrow.Author.Count.{below_more}
+use lib.ListN.{take, drop}
+use Rattle.limits.specs.Limits.{contract_count}
+use Rattle.basics.proofs.Tests.{not_yes, not-no}
+use Rattle.records.specs.Slots.{slot_ok}
+use Rattle.layout.specs.Layout.{territory_in}
+use Rattle.layout.specs.PresentLayout.{contract_record}
+use Rattle.layout.specs.Offsets.{first_contract, contract_length}
+use Rattle.records.specs.OneSlot.{slot_numbers, slot_at}
+use Rattle.records.proofs.OneSlot.{part-lent}
+use Rattle.layout.proofs.Present.{present}
+use Rattle.layout.proofs.Access.{contracts-pass, contracts-fail}
+use Rattle.layout.specs.Present.{rules, layout}
+use Rattle.layout.proofs.Lawful.{offsets}
+use borrow.Author.Rules.{rules as tactics}
+use Rattle.model.specs.PresentRules.{contract_ranges}
+use Rattle.ledger.proofs.ContractSlots.{tested, slot-tested}
+use Rattle.ledger.proofs.check.contracts_ok.Goals as goal
+
+pub loop-c-init : goal.loop-c-init
+loop-c-init c = (omega arith, (c.territory-territory.ensures, λ i h. absurd (not-suc-le-zero h)))
+
+pub returns-then-not-slot_ok : goal.returns-then-not-slot_ok
+unfolding slot_at offsets
+returns-then-not-slot_ok c =
+    sym (contracts-fail present c.args.b.now c.requires c.loop-c.c c.loop-c-test.true
+    (subst (λ (t : ℕ). tested t c.args.b.now c.loop-c.c ≡ false) c.loop-c.invariant.1.0 (sym (slot-tested _ c.loop-c.c c.args.b.now _ c.slot_ok.ensures) ∙ c.if-not-slot_ok.true)))
+
+pub loop-c-preserved : goal.loop-c-preserved
+loop-c-preserved c =
+    let inv = c.loop-c.invariant in
+    (omega arith, (inv.1.0, below_more _ _ inv.1.1 (sym (slot-tested _ c.loop-c.c c.args.b.now _ c.slot_ok.ensures) ∙ c.if-not-slot_ok.false)))
+
+pub returns : goal.returns
+unfolding slot_at offsets
+returns c =
+    let inv = c.loop-c.invariant in
+    sym (contracts-pass present c.args.b.now c.requires (λ i h. subst (λ (t : ℕ). tested t c.args.b.now i ≡ true) inv.1.0 (inv.1.1 i (omega arith))))
