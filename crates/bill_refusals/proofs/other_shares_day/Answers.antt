@@ -1,0 +1,7 @@
+-- `other_shares_day` looks at the row after the one named.
+use Rattle.bill_refusals.proofs.Requests.{other-shared}
+use borrow.Author.Rules.{rules}
+use Rattle.bill_refusals.proofs.other_shares_day.Goals as goal
+
+pub returns : goal.returns
+returns c = other-shared _ _ _ _ _ _ c.requires _ c.row_shares_day.ensures
