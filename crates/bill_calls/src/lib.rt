@@ -18,7 +18,7 @@ use rows::{add_row, remove_row, replace_row};
 // bill: adds a row; answers R, rate and amount.
 pub fn bill(ledger: &mut [u8], rows: usize, book: &[u32], request: Request) -> Answer
     requires { Searched ledger.old rows }
-    ensures { Answered ledger.old (Call.Bill request with (λ x. x.now) book.entry) result ledger.new }
+    ensures { Answered ledger.old (Call.Bill request with book.now) result ledger.new }
 {
     let asked = requested_bill(ledger, book, request);
     match asked {
@@ -36,7 +36,7 @@ pub fn bill(ledger: &mut [u8], rows: usize, book: &[u32], request: Request) -> A
 // rebill: replaces the row with that contract and first day; answers R, rate, and the new amount minus the old.
 pub fn rebill(ledger: &mut [u8], rows: usize, book: &[u32], request: Request) -> Answer
     requires { Searched ledger.old rows }
-    ensures { Answered ledger.old (Call.Rebill request with (λ x. x.now) book.entry) result ledger.new }
+    ensures { Answered ledger.old (Call.Rebill request with book.now) result ledger.new }
 {
     let asked = requested_bill(ledger, book, request);
     match asked {

@@ -18,7 +18,7 @@ use model::{Answer, Call};
 // A call on a ledger that was found well formed, with the number of its rows and the sum of their amounts.
 fn perform_checked(ledger: &mut [u8], rows: usize, due: u64, book: &[u32], call: Call) -> Answer
     requires { Summed ledger.old rows due }
-    ensures { Answered ledger.old (call with (λ x. x.now) book.entry) result ledger.new }
+    ensures { Answered ledger.old (call with book.now) result ledger.new }
 {
     match call {
         Call::Open {
@@ -57,7 +57,7 @@ fn perform_checked(ledger: &mut [u8], rows: usize, due: u64, book: &[u32], call:
 
 // What a call answers, and the bytes that it leaves, with the book that it brings.
 pub fn perform(ledger: &mut [u8], book: &[u32], call: Call) -> Answer
-    ensures { Performed ledger.old (call with (λ x. x.now) book.entry) result ledger.new }
+    ensures { Performed ledger.old (call with book.now) result ledger.new }
 {
     let checked = check(ledger);
     match checked {
