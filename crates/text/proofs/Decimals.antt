@@ -2,14 +2,12 @@
 use mathlib.Core.Path.{◌≡◌, sym, ◌∙◌}
 use mathlib.Core.List.{List}
 use Prim.Native.Nat.{ℕ, ◌+◌, ◌*◌, ◌-◌, ◌≤◌, ◌<◌, ◌^◌}
-use native.Mathlib.Nat.{pow-suc, pow-le-pow_right}
+use native.Mathlib.Nat.{pow-suc}
 use native.Mathlib.Numerals.{add-one}
 use native.Mathlib.Omega.{arith}
 use borrow.Author.Tests.{le-leb, lt-leb}
 use lib.ListN.{length, get_or, drop, drop_of_length-le}
 use lib.Seq.{drop-cons}
-use mir.Syntax.{w64}
-use mir.Val.{Fits}
 use Rattle.text.specs.declared.reading.Decimal.{Decimal}
 use Rattle.text.specs.Numbers.{decimal_value}
 
@@ -44,16 +42,3 @@ module _ {w : List ℕ} {v i : ℕ} (so : Valued w v i) where
       let l : 48 ≤ get_or w i 0 = omega arith in
       let e : decimal_value v (drop i w) ≡ Decimal.NotDecimal = rw (drop-cons w i 0 h) (simp (le-leb 48 _ l, lt-leb _ 57 u)) in
       sym e ∙ so.rest
-
-  -- at most ten digits fit
-  ten-digits : length w ≤ 10 → i < length w → v < 10 ^ 9
-  ten-digits t h =
-      let k : i ≤ 9 = omega arith in
-      let z : 0 < 10 = omega arith in
-      omega (arith, so.small, pow-le-pow_right z k)
-
-  pub tens-fit : length w ≤ 10 → i < length w → Fits w64 (v * 10)
-  tens-fit t h = record { fits = omega (arith, ten-digits t h) }
-
-  pub digit-fits : (d : ℕ) → length w ≤ 10 → i < length w → d ≤ 57 → Fits w64 (v * 10 + (d - 48))
-  digit-fits d t h u = record { fits = omega (arith, ten-digits t h) }

@@ -1,58 +1,18 @@
--- The sign, the absolute value and the text of an integer of 64 bits. Assumes nothing.
+-- The text of an integer of 64 bits, and how long it is. Assumes nothing.
 use mathlib.Core.Path.{◌≡◌, refl, sym, ap, ◌∙◌}
 use mathlib.Core.Bool.{Bool, true, false}
 use mathlib.Core.List.{List, [], ◌∷◌}
-use Prim.Native.Nat.{ℕ, zero, suc, ◌+◌, ◌-◌, ◌≤◌, ◌<◌, ◌^◌, zero-le}
-use native.Mathlib.Nat.{zero-add}
+use Prim.Native.Nat.{ℕ, suc, ◌+◌, ◌≤◌}
 use native.Mathlib.Omega.{arith}
-use borrow.Author.Tests.{le-ltb, lt-ltb}
-use lib.Dec.{T}
-use lib.IntN.{ℤ, pos, negsuc, nat_abs, neg_ℤ, ◌+ℤ◌, ◌-ℤ◌}
+use lib.IntN.{ℤ, pos, negsuc, nat_abs}
 use lib.ListN.{length}
-use lib.Signed.{non_neg, lt_z}
 use mir.Syntax.{w64}
-use mir.Val.{SFits, Fits, to_z, of_z}
+use mir.Val.{SFits, to_z, of_z}
 use mir.ValLaws.{to_z-of_z}
 use Rattle.text.specs.Numbers.{digits, integer_text, is_negative}
 use Rattle.text.specs.Lines.{Wrote, WroteWithin}
 use Rattle.text.proofs.Digits.{few-digits}
 use Rattle.text.proofs.Writes.{within-room, within-then, within_same}
-
-pub below-zero : (x : ℤ) → lt_z x (pos 0) ≡ is_negative x
-below-zero (pos n) = le-ltb n 0 zero-le
-below-zero (negsuc n) = refl
-
--- ---- −(x + 1), for x below zero
-plus_one : (n : ℕ) → negsuc n +ℤ pos 1 ≡ neg_ℤ (pos n)
-plus_one zero = refl
-plus_one (suc n) =
-    let e : suc (suc n) - 2 ≡ n = omega arith in
-    let h : 1 < suc (suc n) = omega arith in
-    simp (lt-ltb 1 (suc (suc n)) h, e)
-
-zero_minus : (n : ℕ) → pos 0 -ℤ neg_ℤ (pos n) ≡ pos n
-zero_minus zero = refl
-zero_minus (suc n) = ap pos (zero-add (suc n))
-
-pub plus-one-fits : (x : ℤ) → SFits w64 x → is_negative x ≡ true → SFits w64 (x +ℤ pos 1)
-plus-one-fits (pos n) h t = let w : ◌≡◌ {A = ℕ} 0 1 = cc in absurd (omega arith)
-plus-one-fits (negsuc n) h t = rw (plus_one n) (negated_fits n h.sfits)
-  where
-    negated_fits : (n : ℕ) → n < 2 ^ 63 → SFits w64 (neg_ℤ (pos n))
-    negated_fits zero k = record { sfits = omega arith }
-    negated_fits (suc n) k = record { sfits = omega arith }
-
-pub negated : (x : ℤ) → is_negative x ≡ true → pos 0 -ℤ (x +ℤ pos 1) ≡ pos (nat_abs x - 1)
-negated (pos n) t = let w : ◌≡◌ {A = ℕ} 0 1 = cc in absurd (omega arith)
-negated (negsuc n) t = let e : n ≡ suc n - 1 = omega arith in rw (plus_one n) (zero_minus n ∙ ap pos e)
-
-pub negative-size : (x : ℤ) → SFits w64 x → is_negative x ≡ true → (1 ≤ nat_abs x) × (nat_abs x ≤ 2 ^ 63)
-negative-size (pos n) h t = let w : ◌≡◌ {A = ℕ} 0 1 = cc in absurd (omega arith)
-negative-size (negsuc n) h t = (omega arith, omega (arith, h.sfits))
-
-pub positive-cast : (x : ℤ) → SFits w64 x → is_negative x ≡ false → T (non_neg x) × Fits w64 (nat_abs x)
-positive-cast (pos n) h t = (tt, record { fits = omega (arith, h.sfits) })
-positive-cast (negsuc n) h t = let w : ◌≡◌ {A = ℕ} 0 1 = cc in absurd (omega arith)
 
 -- ---- the text of an integer
 negative-text : (x : ℤ) → is_negative x ≡ true → integer_text x ≡ 45 ∷ digits (nat_abs x)

@@ -11,7 +11,7 @@ use mir.Syntax.{w64}
 use mir.Val.{SFits, to_z, of_z}
 use mir.ValLaws.{to_z-of_z}
 use Rattle.text.specs.Lines.{WroteWithin, spaced_number, number_room, numbers_text}
-use Rattle.text.proofs.Writes.{wrote_none, wrote-same, within-room, within-then}
+use Rattle.text.proofs.Writes.{wrote-same, within-then}
 
 both-texts : (xs ys : List ℤ) → numbers_text (xs ++ ys) ≡ numbers_text xs ++ numbers_text ys
 both-texts [] ys = refl
@@ -26,13 +26,7 @@ pub record Printed (before : List ℕ) (at count : ℕ) (zs : List ℤ) (out : L
   pub long : length out ≡ length before
   pub wrote : WroteWithin (number_room * k) before out at p (numbers_text (take k zs))
 
-pub none-printed : (before : List ℕ) (at count : ℕ) (zs : List ℤ) → Printed before at count zs before at 0
-none-printed before at count zs = record { fewer = omega arith; long = refl; wrote = within-room 0 (wrote_none before at) (omega arith) }
-
 module _ {before : List ℕ} {at count : ℕ} {zs : List ℤ} {out : List ℕ} {p k : ℕ} (so : Printed before at count zs out p k) where
-  pub number-room : k < count → at + number_room * count ≤ length before → p + number_room ≤ length out
-  number-room l h = omega (arith, so.long, so.wrote.within)
-
   -- a number that is passed on is read back from its bits
   pub one-more-printed : {after : List ℕ} {q : ℕ} → k < count → k < length zs → SFits w64 (get_or zs k (pos 0)) → length after ≡ length out
       → WroteWithin number_room out after p q (spaced_number (to_z w64 (of_z w64 (get_or zs k (pos 0))))) → Printed before at count zs after q (k + 1)
@@ -43,6 +37,3 @@ module _ {before : List ℕ} {at count : ℕ} {zs : List ℤ} {out : List ℕ} {
         long = e ∙ so.long;
         wrote = record { wrote = wrote-same t.wrote refl (rw (to_z-of_z w64 _ f, add-one) (one-more-number zs k h)); within = omega (arith, t.within) };
       }
-
-  pub all-printed : count ≤ k → WroteWithin (number_room * count) before out at p (numbers_text (take count zs))
-  all-printed l = let e : k ≡ count = omega (arith, so.fewer) in rw (← e) so.wrote

@@ -15,17 +15,12 @@ use Rattle.text.specs.Numbers.{number_of, numbers_of, followed_by}
 use Rattle.text.specs.declared.reading.Command.{Command}
 use Rattle.text.specs.Commands.{Takes, Form, most_numbers, command_with, command_by}
 use Rattle.text.specs.ReadingSteps.{form_at, command_from, call_at}
-use Rattle.text.proofs.Places.{takes-at-most}
 use Rattle.text.proofs.PieceLaws.{next-piece, front-piece, front_ends, none_after, some_after}
 
 -- numbers after the numbers l
 abbrev pub after : List ℕ → Option (List ℕ) → Option (List ℕ)
 after l none = none
 after l (some ns) = some (l ++ ns)
-
-after_nothing : (x : Option (List ℕ)) → x ≡ after [] x
-after_nothing none = refl
-after_nothing (some ns) = refl
 
 after_one : (l : List ℕ) (n : ℕ) (x : Option (List ℕ)) → after l (followed_by (Parsed.Value n) x) ≡ after (l ++ (n ∷ [])) x
 after_one l n none = refl
@@ -60,18 +55,6 @@ pub record Gathered (place count : ℕ) (s : List ℕ) (from : ℕ) (ns : List �
   pub long : length ns ≡ most_numbers
   pub rest : numbers_of (pieces_after space s from) ≡ after (take k ns) (numbers_of (pieces_after space s end))
 
-pub none-gathered :
-    (place count : ℕ) (s : List ℕ) (from : ℕ) (ns : List ℕ)
-    → count ≡ (form_at place).count → from ≤ length s → length ns ≡ most_numbers → Gathered place count s from ns from 0
-none-gathered place count s from ns takes h l = record {
-  takes = takes;
-  most = omega (arith, takes, takes-at-most place);
-  few = omega arith;
-  inside = h;
-  long = l;
-  rest = after_nothing (numbers_of (pieces_after space s from));
-}
-
 module _ {place count : ℕ} {s : List ℕ} {from : ℕ} {ns : List ℕ} {end k : ℕ} (so : Gathered place count s from ns end k) where
   taken : length (take k ns) ≡ k
   taken = length-take-le k ns (omega (arith, so.few, so.most, so.long))
@@ -103,9 +86,6 @@ module _ {place count : ℕ} {s : List ℕ} {from : ℕ} {ns : List ℕ} {end k 
       let e = bytes_before space t in
       rw (so.rest, some_after space s end l, front-piece space t e (front_ends space t))
       (too_many (form_at place) (take k ns) (number_of (take e t)) (numbers_of (pieces_after space t e)) (omega (arith, so.takes, so.few, taken)))
-
-  pub goes_on : (end ≡ length s → ⊥) → end + 1 ≤ length s
-  goes_on n = omega (arith, lt_of_le-ne so.inside n)
 
   -- the next word, from end + 1 to e
   module _ (n : end ≡ length s → ⊥) {e : ℕ} (h : PieceEnds space s (end + 1) e) {x : Parsed} (w : x ≡ number_of (take (e - (end + 1)) (drop (end + 1) s))) where

@@ -3,7 +3,7 @@ use mathlib.Core.Path.{◌≡◌, refl, sym, ap, ◌∙◌}
 use mathlib.Core.Bool.{Bool, true, false}
 use mathlib.Core.List.{List, [], ◌∷◌, map}
 use mathlib.Core.Option.{none, some}
-use Prim.Native.Nat.{ℕ, zero, suc, ◌+◌, ◌-◌, ◌≤◌, ◌<◌}
+use Prim.Native.Nat.{ℕ, suc, ◌+◌, ◌-◌, ◌≤◌, ◌<◌}
 use native.Mathlib.Nat.{add-zero}
 use native.Mathlib.Numerals.{add-one}
 use native.Mathlib.Omega.{arith}
@@ -13,8 +13,7 @@ use lib.Seq.{drop-drop, get_or-drop}
 use Rattle.text.specs.declared.pieces.Found.{Found}
 use Rattle.text.specs.Bytes.{space}
 use Rattle.text.specs.Pieces.{pieces, PieceEnds, pieces_after, same_text, place_from}
-use Rattle.text.specs.Commands.{Form, forms, most_numbers, form_named}
-use Rattle.text.specs.ReadingSteps.{no_form, form_at}
+use Rattle.text.specs.Commands.{Form, form_named}
 use Rattle.text.proofs.PieceLaws.{next-piece, none_after, some_after}
 
 -- ---- the search: `place` words before `at` are others
@@ -89,18 +88,3 @@ pub named-nowhere : (k : ℕ) (fs : List Form) (word : List ℕ) → Found.Nowhe
 unfolding form_named
 named-nowhere k [] word h = refl
 named-nowhere k (f ∷ fs) word h = nowhere-step k f fs word (same_text word f.name) refl (named-nowhere (suc k) fs word) h
-
--- ---- no form takes more than the most numbers
-FewNumbers : List Form → Type 0
-FewNumbers [] = Unit {0}
-FewNumbers (f ∷ fs) = (f.count ≤ most_numbers) × FewNumbers fs
-
-few-at : (fs : List Form) (i : ℕ) → FewNumbers fs → (get_or fs i no_form).count ≤ most_numbers
-unfolding FewNumbers
-few-at [] i h = omega arith
-few-at (f ∷ fs) zero h = h.0
-few-at (f ∷ fs) (suc i) h = few-at fs i h.1
-
-pub takes-at-most : (i : ℕ) → (form_at i).count ≤ most_numbers
-unfolding FewNumbers
-takes-at-most i = few-at forms i (omega arith)

@@ -4,17 +4,10 @@ use mathlib.Core.Bool.{Bool, true, false}
 use mathlib.Core.List.{List}
 use Prim.Native.Nat.{ℕ, ◌≤◌, ◌<◌}
 use borrow.Author.Tests.{ne_eqb, lt-ltb, le-ltb}
-use lib.Dec.{eqb}
-use lib.ListN.{length, get_or}
+use lib.ListN.{length}
 use Rattle.text.specs.declared.reading.Decimal.{Decimal}
 use Rattle.text.specs.declared.reading.Parsed.{Parsed}
 use Rattle.text.specs.Numbers.{number_of, decimal_value, has_leading_zero}
-
-pub one_byte : (w : List ℕ) → length w ≤ 1 → false ≡ has_leading_zero w
-one_byte w h = simp (le-ltb 1 (length w) h)
-
-pub first_byte : (w : List ℕ) → 1 < length w → eqb (get_or w 0 0) 48 ≡ has_leading_zero w
-first_byte w h = simp (lt-ltb 1 (length w) h)
 
 module _ (w : List ℕ) where
   pub no_digit : length w ≡ 0 → Parsed.NotNumber ≡ number_of w

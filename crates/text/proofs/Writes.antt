@@ -53,10 +53,6 @@ within-then v w = record { wrote = wrote_then v.wrote w.wrote; within = omega (a
 pub within_same : {room : ℕ} {d e : List ℕ} {at r : ℕ} {xs ys : List ℕ} → WroteWithin room d e at r xs → xs ≡ ys → WroteWithin room d e at r ys
 within_same w h = record { wrote = wrote-same w.wrote refl h; within = w.within }
 
--- the room that is left after a text
-pub room_after : {m : ℕ} {d e : List ℕ} {at r : ℕ} {xs : List ℕ} (n : ℕ) → WroteWithin m d e at r xs → length e ≡ length d → at + (m + n) ≤ length d → r + n ≤ length e
-room_after n w k h = omega (arith, w.within)
-
 -- ---- a number after a space: an integer of 64 bits that is passed on is read back from its bits
 pub spaced-within : {d e f : List ℕ} {at p r : ℕ} {z : ℤ} → SFits w64 z → Wrote d e at p (space ∷ []) → WroteWithin 20 e f p r (integer_text (to_z w64 (of_z w64 z)))
     → WroteWithin number_room d f at r (spaced_number z)
@@ -68,19 +64,7 @@ module _ (t : Reply) (h : t.refused ≡ 0) where
       → WroteWithin (words_room t) d f at r (words_text t)
   ok-within v w = rw (eq-eqb t.refused 0 h) (within-then (within-room 2 v (omega arith)) w)
 
-  pub ok-first : (at n : ℕ) → at + words_room t ≤ n → at + 2 ≤ n
-  ok-first at n l = let k : at + (2 + number_room * t.count) ≤ n = rw (eq-eqb t.refused 0 h) at l in omega arith
-
-  pub ok-after : {d e : List ℕ} {at p : ℕ} → Wrote d e at p (ascii "ok") → length e ≡ length d → at + words_room t ≤ length d → p + number_room * t.count ≤ length e
-  ok-after v k l = room_after (number_room * t.count) (within-room 2 v (omega arith)) k (rw (eq-eqb t.refused 0 h) at l)
-
 -- `refused` and the number
 module _ (t : Reply) (h : t.refused ≡ 0 → ⊥) where
   pub refused-within : {d e f : List ℕ} {at p r : ℕ} → Wrote d e at p (ascii "refused ") → Wrote e f p r (digits t.refused) → WroteWithin (words_room t) d f at r (words_text t)
   refused-within v w = rw (ne_eqb t.refused 0 h) (within-then (within-room 8 v (omega arith)) (within-room (length (digits t.refused)) w (omega arith)))
-
-  pub refused-first : (at n : ℕ) → at + words_room t ≤ n → at + 8 ≤ n
-  refused-first at n l = let k : at + (8 + length (digits t.refused)) ≤ n = rw (ne_eqb t.refused 0 h) at l in omega arith
-
-  pub refused-after : {d e : List ℕ} {at p : ℕ} → Wrote d e at p (ascii "refused ") → length e ≡ length d → at + words_room t ≤ length d → p + length (digits t.refused) ≤ length e
-  refused-after v k l = room_after (length (digits t.refused)) (within-room 8 v (omega arith)) k (rw (ne_eqb t.refused 0 h) at l)

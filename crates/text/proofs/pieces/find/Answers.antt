@@ -1,16 +1,8 @@
--- `find` meets its contract. The loop's invariant: as many bytes stand before the separator from `at` on as were
--- passed and stand before it from `i` on. The measure is what is left of the text.
-use mathlib.Core.Path.{◌≡◌, refl}
-use Prim.Native.Nat.{◌+◌, ◌-◌, ◌≤◌}
+-- `find` meets its contract: the loop ends at a separator or at the end of the text, and passes another byte otherwise.
 use native.Mathlib.Omega.{arith}
 use borrow.Author.Rules.{rules}
-use lib.ListN.{length, drop}
-use Rattle.text.specs.Pieces.{bytes_before}
 use Rattle.text.proofs.PieceLaws.{none-at-end, none-at-separator, one-at-other}
 use Rattle.text.proofs.pieces.find.Goals as goal
-
-pub loop-i-init : goal.loop-i-init
-loop-i-init c = (search rules, refl)
 
 pub returns-then-s-i : goal.returns-then-s-i
 returns-then-s-i c =

@@ -1,12 +1,9 @@
--- `find` meets its contract. The loop's invariant: as many bytes stand before the separator from `at` on as were
--- passed and stand before it from `i` on. The measure is what is left of the text.
-use mathlib.Core.Path.{◌≡◌, refl}
+-- The loop of `find`: as many bytes stand before the separator from `at` on as were passed and stand before it from `i` on. The
+-- measure is what is left of the text.
+use mathlib.Core.Path.{◌≡◌}
 use Prim.Native.Nat.{◌+◌, ◌-◌, ◌≤◌}
-use native.Mathlib.Omega.{arith}
-use borrow.Author.Rules.{rules}
 use lib.ListN.{length, drop}
 use Rattle.text.specs.Pieces.{bytes_before}
-use Rattle.text.proofs.PieceLaws.{none-at-end, none-at-separator, one-at-other}
 use Rattle.text.proofs.pieces.find.Given as goal
 
 abbrev pub invariant-loop-i : goal.invariant-loop-i

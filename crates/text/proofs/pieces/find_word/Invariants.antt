@@ -1,10 +1,7 @@
--- `find_word` meets its contract. The loop's invariant: the words before `at` are others, and `place` is how many they
--- are. The measure is what is left of the words.
-use mathlib.Core.Path.{refl}
+-- The loop of `find_word`: the words before `at` are others, and `place` is how many they are. The measure is what is left of the words.
 use Prim.Native.Nat.{◌-◌}
-use borrow.Author.Rules.{rules}
 use lib.ListN.{length}
-use Rattle.text.proofs.Places.{WordsPassed, found, nowhere, onward}
+use Rattle.text.proofs.Places.{WordsPassed}
 use Rattle.text.proofs.pieces.find_word.Given as goal
 
 abbrev pub invariant-loop-at : goal.invariant-loop-at

@@ -1,19 +1,12 @@
--- `same_text` meets its contract. The loop's invariant: the texts are the same if they are from `i` on. The measure is
--- what is left of the first.
-use mathlib.Core.Path.{◌≡◌, refl, sym, ◌∙◌}
-use Prim.Native.Nat.{◌-◌, ◌≤◌}
+-- `same_text` meets its contract: texts of another length differ, and of the same length they are compared byte by byte.
+use mathlib.Core.Path.{sym, ◌∙◌}
 use native.Mathlib.Omega.{arith}
 use borrow.Author.Rules.{rules}
-use lib.ListN.{length, drop}
-use Rattle.text.specs.Pieces.{same_text}
 use Rattle.text.proofs.SameText.{same-at-end, same-on, not_same, not-same-length}
 use Rattle.text.proofs.pieces.same_text.Goals as goal
 
 pub returns-then-a-b : goal.returns-then-a-b
 returns-then-a-b c = sym (not-same-length _ _ c.if-a-b.true)
-
-pub loop-i-init : goal.loop-i-init
-loop-i-init c = (search rules, refl)
 
 pub returns-then-a-i : goal.returns-then-a-i
 returns-then-a-i c =

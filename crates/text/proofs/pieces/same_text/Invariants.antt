@@ -1,12 +1,8 @@
--- `same_text` meets its contract. The loop's invariant: the texts are the same if they are from `i` on. The measure is
--- what is left of the first.
-use mathlib.Core.Path.{◌≡◌, refl, sym, ◌∙◌}
+-- The loop of `same_text`: the texts are the same if they are from `i` on. The measure is what is left of the first.
+use mathlib.Core.Path.{◌≡◌}
 use Prim.Native.Nat.{◌-◌, ◌≤◌}
-use native.Mathlib.Omega.{arith}
-use borrow.Author.Rules.{rules}
 use lib.ListN.{length, drop}
 use Rattle.text.specs.Pieces.{same_text}
-use Rattle.text.proofs.SameText.{same-at-end, same-on, not_same, not-same-length}
 use Rattle.text.proofs.pieces.same_text.Given as goal
 
 abbrev pub invariant-loop-i : goal.invariant-loop-i

@@ -1,22 +1,11 @@
 -- `command_at` meets its contract: at each place the form of the table gives the command.
-use mathlib.Core.Path.{◌≡◌, sym, ap}
-use Prim.Native.Nat.{ℕ, zero, suc, ◌≤◌, zero-le}
-use lib.Arith.{lt_of_le-ne}
-use borrow.Author.Rules.{rules}
+use mathlib.Core.Path.{sym, ap}
+use Prim.Native.Nat.{◌≤◌}
+use native.Mathlib.Omega.{arith}
 use lib.ListN.{length, get_or-eq_default}
 use Rattle.text.specs.Commands.{Form, forms}
 use Rattle.text.specs.ReadingSteps.{no_form, command_from}
 use Rattle.text.proofs.reading.command_at.Goals as goal
-
--- a place that is none of the first n, as the last arm of a match has it
-NoneOf : ℕ → ℕ → Type 0
-NoneOf zero place = Unit {0}
-NoneOf (suc n) place = NoneOf n place × (place ≡ n → ⊥)
-
-past : (n place : ℕ) → NoneOf n place → n ≤ place
-unfolding NoneOf
-past zero place h = zero-le
-past (suc n) place h = lt_of_le-ne (past n place h.0) (λ e. h.1 (sym e))
 
 pub returns-in-0 : goal.returns-in-0
 returns-in-0 c = rw c.in-0.is
@@ -58,7 +47,6 @@ pub returns-in-12 : goal.returns-in-12
 returns-in-12 c = rw c.in-12.is
 
 pub returns-in_default : goal.returns-in_default
-unfolding NoneOf
 returns-in_default c =
-    let a = c.args in
-    ap (λ (f : Form). command_from f.count f.make a.t2 0) (sym (get_or-eq_default forms no_form (past (length forms) a.place c.in_default.rest)))
+    let past : length forms ≤ c.args.place = omega arith in
+    ap (λ (f : Form). command_from f.count f.make c.args.n 0) (sym (get_or-eq_default forms no_form past))

@@ -1,18 +1,10 @@
--- `read_call` meets its contract. The loop's invariant: the words up to `last` are k numbers, which the array starts with. The measure is
--- how many are still to be read.
-use Prim.Native.Nat.{◌-◌}
+-- `read_call` meets its contract: too few words, a word that is no number, or a word more make no command, and else each word is a number more.
 use borrow.Author.Rules.{rules}
-use Rattle.text.proofs.Numbers.{Gathered, none-gathered, too_few, all_read, one_more, goes_on, no_number, number-on}
+use Rattle.text.proofs.Numbers.{too_few, all_read, one_more, no_number, number-on}
 use Rattle.text.proofs.reading.read_call.Goals as goal
-
-pub loop-k-init : goal.loop-k-init
-loop-k-init c = search (none-gathered, rules)
 
 pub returns-then-last-line : goal.returns-then-last-line
 returns-then-last-line c = search (too_few, rules)
-
-pub find-last-requires : goal.find-last-requires
-find-last-requires c = search (goes_on, rules)
 
 pub returns-in_default : goal.returns-in_default
 returns-in_default c = search (no_number, rules)

@@ -1,8 +1,6 @@
--- `read_call` meets its contract. The loop's invariant: the words up to `last` are k numbers, which the array starts with. The measure is
--- how many are still to be read.
+-- The loop of `read_call`: the words up to `last` are k numbers, which the array starts with. The measure is how many are still to be read.
 use Prim.Native.Nat.{◌-◌}
-use borrow.Author.Rules.{rules}
-use Rattle.text.proofs.Numbers.{Gathered, none-gathered, too_few, all_read, one_more, goes_on, no_number, number-on}
+use Rattle.text.proofs.Numbers.{Gathered}
 use Rattle.text.proofs.reading.read_call.Given as goal
 
 abbrev pub invariant-loop-k : goal.invariant-loop-k

@@ -1,6 +1,5 @@
 -- `read_number` meets its contract: each test of the length and of the first byte as the definition has it, and then the
 -- value of the digits.
-use borrow.Author.Rules.{rules}
 use Rattle.text.proofs.WordTests.{no_digit, too_long, leading-zero, not-decimal, too_large, its-value}
 use Rattle.text.proofs.reading.read_number.Goals as goal
 

@@ -4,11 +4,14 @@ use borrow.Author.Rules.{rules}
 use Rattle.text.proofs.Integers.{digits-first, digits-after, negative-within, positive-within}
 use Rattle.text.proofs.writing.write_integer.Goals as goal
 
-pub shape_of-out-then-is_negative : goal.shape_of-out-then-is_negative
-shape_of-out-then-is_negative c = search (digits-after, rules)
+pub write_digits-requires : goal.write_digits-requires
+write_digits-requires c = search (digits-after, rules)
+
+pub returns-then-is_negative : goal.returns-then-is_negative
+returns-then-is_negative c = search (negative-within, rules)
 
 pub write_digits-requires-2 : goal.write_digits-requires-2
-write_digits-requires-2 c = search (negative-within, rules)
+write_digits-requires-2 c = search (digits-first, rules)
 
-pub shape_of-out : goal.shape_of-out
-shape_of-out c = search (digits-first, rules)
+pub returns : goal.returns
+returns c = search (positive-within, rules)

@@ -1,7 +1,6 @@
--- `write_numbers` meets its contract. The loop's invariant: the first k numbers are written. The measure is how many are left.
+-- The loop of `write_numbers`: the first k numbers are written. The measure is how many are left.
 use Prim.Native.Nat.{◌-◌}
-use borrow.Author.Rules.{rules}
-use Rattle.text.proofs.NumberTexts.{Printed, none-printed, number-room, one-more-printed, all-printed}
+use Rattle.text.proofs.NumberTexts.{Printed}
 use Rattle.text.proofs.writing.write_numbers.Given as goal
 
 abbrev pub invariant-loop-k : goal.invariant-loop-k
