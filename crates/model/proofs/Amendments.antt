@@ -6,7 +6,7 @@ use Rattle.basics.specs.Lists.{All}
 use Rattle.basics.proofs.Lists.{all_map, total-all}
 use Rattle.amounts.specs.declared.Bill.{Bill}
 use Rattle.model.specs.declared.Call.{Call}
-use Rattle.model.specs.Calls.{CallWithBook, ◌with◌}
+use Rattle.model.specs.Calls.{◌with◌}
 use Rattle.model.specs.Rules.{Rules, refusal, unless_refused, part_of_due}
 use Rattle.model.specs.Ledger.{Ledger, fresh}
 use Rattle.model.specs.Sheet.{Sheet, blank, view, accept, step, due}

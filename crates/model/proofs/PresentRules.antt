@@ -6,7 +6,7 @@ use Prim.Native.Nat.{ℕ, ◌≤◌}
 use native.Mathlib.Omega.{arith}
 use lib.Dec.{T, ltb, leb}
 use Rattle.limits.specs.Limits.{highest_price, most_kwh_stored, contract_count, row_count, most_claims}
-use borrow.Author.Tests.{le-leb, le-ltb}
+use borrow.Author.Tests.{le-ltb}
 use Rattle.basics.proofs.Tests.{not-no, no-not, not_yes, lt_no, lt_yes, le-no, le_yes, yes_le, or-no-left, or-no-right, and-false, all-every}
 use Rattle.rates.specs.declared.Amendment.TheVariants as amendment
 use Rattle.rates.specs.declared.Contract.{Contract}

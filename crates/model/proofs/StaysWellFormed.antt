@@ -15,7 +15,7 @@ use Rattle.basics.proofs.Lists.{all_map, none-all, all_both, all-over, count-tru
 use Rattle.rates.specs.declared.Contract.{Contract}
 use Rattle.amounts.specs.declared.Bill.{Bill}
 use Rattle.model.specs.declared.Row.{Row}
-use Rattle.model.specs.Codes.{opening, certify, amend}
+use Rattle.model.specs.Codes.{opening, certify}
 use Rattle.model.specs.OpenContracts.{Contracts, contract_at, is_open, put_contract}
 use Rattle.model.specs.declared.Call.{Call}
 use Rattle.model.specs.declared.Request.{Request}

@@ -6,7 +6,7 @@ use Prim.Native.Nat.{ℕ, zero, suc, ◌+◌, ◌*◌, ◌/◌, ◌≤◌, zero-
 use native.Mathlib.Omega.{arith}
 use lib.IntN.{ℤ, pos, negsuc, sub_ℕ, neg_ℤ, ◌+ℤ◌, ◌-ℤ◌, ◌*ℤ◌, +ℤ-neg_ℤ_cancel, pos-*ℤ-pos, pos-*ℤ-negsuc, pos-ne-negsuc}
 use Rattle.limits.specs.Limits.{ticks_per_penny}
-use Rattle.basics.specs.Lists.{All, total, count}
+use Rattle.basics.specs.Lists.{All, count}
 use Rattle.basics.specs.Integers.{sumℤ}
 use Rattle.basics.proofs.Tests.{either}
 use Rattle.basics.proofs.Lists.{all_map, all-over, total-all, total-map}

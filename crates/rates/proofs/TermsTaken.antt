@@ -1,16 +1,15 @@
 -- The terms that a bill takes, by its first day; those of a span that doesn't cross the original end are one on all its days. Assumes nothing.
 use mathlib.Core.Path.{◌≡◌, refl}
-use mathlib.Core.Bool.{Bool, true, false, cond, ◌&&◌, true≢false}
+use mathlib.Core.Bool.{false}
 use Prim.Native.Nat.{ℕ, ◌≤◌, ◌<◌}
 use native.Mathlib.Omega.{arith}
 use lib.Dec.{leb, ltb}
 use borrow.Author.Tests.{le-leb, lt-leb}
-use Rattle.basics.proofs.Tests.{either, le_yes, le-no, lt_no, and_no}
+use Rattle.basics.proofs.Tests.{either, le-no, lt_no, and_no}
 use Rattle.rates.specs.declared.Kind.{Kind}
 use Rattle.rates.specs.declared.Kind.TheVariants.{Fixed}
 use Rattle.rates.specs.declared.Amendment.{Amendment}
 use Rattle.rates.specs.declared.Amendment.TheVariants.{Unamended, Amended}
-use Rattle.rates.specs.declared.Contract.{Contract}
 use Rattle.rates.specs.TermsTaken.{kind_taken, terms_for, crosses_end, TermsTaken}
 
 pub on-or-before : (end fix entry : ℕ) (kind : Kind) (first : ℕ) → first ≤ end → kind_taken (Amended end fix entry) kind first ≡ kind

@@ -1,6 +1,5 @@
 -- `amount` is that of a bill with shares, or of one without.
 use mathlib.Core.Path.{sym, ◌∙◌}
-use borrow.Author.Rules.{rules}
 use Rattle.amounts.proofs.amount.Goals as goal
 
 pub shares_by_class-requires : goal.shares_by_class-requires

@@ -5,7 +5,6 @@ use native.Mathlib.Nat.{mul-le-mul, mul-le-mul_left, zero-mul}
 use native.Mathlib.Omega.{arith}
 use Rattle.limits.specs.Limits.{most_kwh_stored}
 use Rattle.rates.proofs.WithinCaps.{highest_rate, class-rate-low}
-use borrow.Author.Rules.{rules}
 use Rattle.amounts.proofs.at_rate.Goals as goal
 
 -- the class's rate, within the range of S

@@ -8,7 +8,6 @@ use Rattle.amounts.specs.declared.Bill.{Bill}
 use Rattle.amounts.specs.declared.KwhByClass.{KwhByClass}
 use Rattle.amounts.specs.Amounts.{rate_of, amount}
 use Rattle.amounts.specs.KwhFound.{KwhOf}
-use borrow.Author.Rules.{rules}
 use Rattle.amounts.proofs.at_rates.Goals as goal
 
 four-amounts : (terms : Terms) (bill : Bill) (k : KwhByClass) (baseline etii old new : ℕ) → KwhOf terms bill k

@@ -1,7 +1,6 @@
 -- `is_amount` compares with the amount of a bill with shares, or of one without.
 use mathlib.Core.Path.{sym, ap, ◌∙◌}
 use lib.Dec.{eqb}
-use borrow.Author.Rules.{rules}
 use Rattle.amounts.proofs.is_amount.Goals as goal
 
 pub shares_by_class-requires : goal.shares_by_class-requires

@@ -1,6 +1,5 @@
 -- `kind_of_bill` is the kind of the terms that the bill takes.
 use Rattle.rates.specs.TermsTaken.{terms_for}
-use borrow.Author.Rules.{rules}
 use Rattle.amounts.proofs.kind_of_bill.Goals as goal
 
 pub returns : goal.returns

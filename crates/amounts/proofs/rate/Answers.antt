@@ -10,7 +10,6 @@ use Rattle.rates.specs.TermsTaken.{terms_for}
 use Rattle.amounts.specs.declared.Bill.{Bill}
 use Rattle.amounts.specs.Amounts.{has_shares, rate, by_terms}
 use Rattle.amounts.proofs.Shares.{certificate-kept, set_aside}
-use borrow.Author.Rules.{rules}
 use Rattle.amounts.proofs.rate.Goals as goal
 
 -- without shares, by the terms and the class that were found

@@ -1,7 +1,6 @@
 -- `shares_by_class` gives the kWh in each class of a bill with shares.
 use Rattle.rates.specs.TermsTaken.{terms_for}
 use Rattle.amounts.proofs.KwhFound.{kwh-shares}
-use borrow.Author.Rules.{rules}
 use Rattle.amounts.proofs.shares_by_class.Goals as goal
 
 pub returns : goal.returns

@@ -1,7 +1,6 @@
 -- `whole_by_class` gives the kWh in each class of a bill without shares: by the certificate.
 use Rattle.rates.specs.TermsTaken.{terms_for}
 use Rattle.amounts.proofs.KwhFound.{kwh-none, kwh-etii, kwh-qhs}
-use borrow.Author.Rules.{rules}
 use Rattle.amounts.proofs.whole_by_class.Goals as goal
 
 pub returns-in-None : goal.returns-in-None

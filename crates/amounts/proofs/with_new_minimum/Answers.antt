@@ -4,7 +4,6 @@ use Rattle.rates.specs.declared.Kind.{Kind}
 use Rattle.rates.specs.Rates.{entered_early}
 use Rattle.rates.specs.TermsTaken.{terms_for}
 use Rattle.amounts.proofs.KwhFound.{ends-before-new-minimum, entered-early-none, from-new-minimum}
-use borrow.Author.Rules.{rules}
 use Rattle.amounts.proofs.with_new_minimum.Goals as goal
 
 pub returns-then-bill-lt-NEW_MINIMUM_DAY : goal.returns-then-bill-lt-NEW_MINIMUM_DAY

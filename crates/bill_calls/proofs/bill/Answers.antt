@@ -1,6 +1,5 @@
 -- `bill` is turned down by its request or by its row, or its row is added.
 use Rattle.bill_calls.proofs.Bills.{bill-of, bill-request-refused, bill-row-refused, new-row-of, bill-accepted}
-use borrow.Author.Rules.{rules}
 use Rattle.bill_calls.proofs.bill.Goals as goal
 
 pub new_place-placed-requires : goal.new_place-placed-requires

@@ -1,7 +1,6 @@
 -- `cancel` is turned down by its contract or for want of the row, or the row is removed.
 use Rattle.layout.proofs.Present.{formed-length}
 use Rattle.bill_calls.proofs.Bills.{cancel-refused, no-row-refused, cancel-accepted}
-use borrow.Author.Rules.{rules}
 use Rattle.bill_calls.proofs.cancel.Goals as goal
 
 pub refused_contract-refused-requires : goal.refused_contract-refused-requires

@@ -1,6 +1,5 @@
 -- `rebill` is turned down by its request or by its row, or its row is put in place of the old one.
 use Rattle.bill_calls.proofs.Bills.{bill-of, rebill-request-refused, rebill-row-refused, row-again-of, rebill-accepted}
-use borrow.Author.Rules.{rules}
 use Rattle.bill_calls.proofs.rebill.Goals as goal
 
 pub place_again-placed-requires : goal.place_again-placed-requires

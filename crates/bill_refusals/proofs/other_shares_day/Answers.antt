@@ -1,6 +1,5 @@
 -- `other_shares_day` looks at the row after the one named.
 use Rattle.bill_refusals.proofs.Requests.{other-shared}
-use borrow.Author.Rules.{rules}
 use Rattle.bill_refusals.proofs.other_shares_day.Goals as goal
 
 pub returns : goal.returns

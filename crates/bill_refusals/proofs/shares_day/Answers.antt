@@ -1,6 +1,5 @@
 -- `shares_day` looks at the first row that reaches the span's first day.
 use Rattle.bill_refusals.proofs.Requests.{day-shared}
-use borrow.Author.Rules.{rules}
 use Rattle.bill_refusals.proofs.shares_day.Goals as goal
 
 pub returns : goal.returns

@@ -1,5 +1,4 @@
 -- `date` meets its contract: below 852 by the entry of the table, else by the test alone.
-use borrow.Author.Rules.{rules}
 use Rattle.calendar.proofs.Conversions.{date-found, late-refused}
 use Rattle.calendar.proofs.date.Goals as goal
 

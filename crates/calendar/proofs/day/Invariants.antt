@@ -1,9 +1,8 @@
 -- `day` meets its contract. The loop's invariant: no day passed has the date. The measure is what is left of the table.
 use Prim.Native.Nat.{◌-◌}
-use borrow.Author.Rules.{rules}
 use Rattle.limits.specs.Limits.{day_count}
 use Rattle.calendar.specs.Calendar.{date_from}
-use Rattle.calendar.proofs.Conversions.{Sought, none-sought, found, goes_on, absent-refused}
+use Rattle.calendar.proofs.Conversions.{Sought}
 use Rattle.calendar.proofs.day.Given as goal
 
 abbrev pub invariant-loop-number : goal.invariant-loop-number

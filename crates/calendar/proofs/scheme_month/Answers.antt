@@ -1,12 +1,9 @@
 -- `scheme_month` meets its contract. The loop's invariant: the months found and those of the rest make up all that have begun.
-use Prim.Native.Nat.{◌-◌}
 use mathlib.Core.Path.{refl, sym, ap}
 use native.Mathlib.Omega.{arith}
-use borrow.Author.Rules.{rules}
-use lib.ListN.{length}
 use Rattle.calendar.specs.Days.{dates, scheme_month, scheme_month_of}
 use Rattle.calendar.proofs.Days.{past-table}
-use Rattle.calendar.proofs.SchemeMonths.{begun, as_begun, Counting, none-counted, counted, not-counted, all-counted}
+use Rattle.calendar.proofs.SchemeMonths.{begun, as_begun, none-counted, counted, not-counted, all-counted}
 use Rattle.calendar.proofs.scheme_month.Goals as goal
 use Rattle.calendar.proofs.scheme_month.Goals.{then-starts-i, else-starts-i}
 
@@ -22,9 +19,9 @@ overflow_add-month c = omega (arith, c.loop-i.invariant.few, c.loop-i.invariant.
 
 pub loop-i-preserved : goal.loop-i-preserved
 loop-i-preserved c =
-    elim c.if-starts-i.branch
-    [ then-starts-i w ↦ counted c.loop-i.invariant c.loop-i-test.true w.if-starts-i.true w.month-is
-    | else-starts-i w ↦ not-counted c.loop-i.invariant c.loop-i-test.true w.if-starts-i.false w.month-is
+    elim c.if-starts-i.branch [
+      | then-starts-i w ↦ counted c.loop-i.invariant c.loop-i-test.true w.if-starts-i.true w.month-is
+      | else-starts-i w ↦ not-counted c.loop-i.invariant c.loop-i-test.true w.if-starts-i.false w.month-is
     ]
 
 -- antt computes the test over the whole table with the code's own first days

@@ -1,13 +1,7 @@
 -- `scheme_month` meets its contract. The loop's invariant: the months found and those of the rest make up all that have begun.
 use Prim.Native.Nat.{◌-◌}
-use mathlib.Core.Path.{refl, sym, ap}
-use mathlib.Core.Logic.{⊎_elim}
-use native.Mathlib.Omega.{arith}
-use borrow.Author.Rules.{rules}
 use lib.ListN.{length}
-use Rattle.calendar.specs.Days.{dates, scheme_month, scheme_month_of}
-use Rattle.calendar.proofs.Days.{past-table}
-use Rattle.calendar.proofs.SchemeMonths.{begun, as_begun, Counting, none-counted, counted, not-counted, all-counted}
+use Rattle.calendar.proofs.SchemeMonths.{Counting}
 use Rattle.calendar.proofs.scheme_month.Given as goal
 
 abbrev pub invariant-loop-i : goal.invariant-loop-i

@@ -1,6 +1,5 @@
 -- `unpacked` meets its contract: the code divides as the definition does.
 use mathlib.Core.Path.{refl}
-use borrow.Author.Rules.{rules}
 use Rattle.calendar.specs.Days.{unpacked}
 use Rattle.calendar.proofs.unpacked.Goals as goal
 

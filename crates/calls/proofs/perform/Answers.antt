@@ -1,7 +1,6 @@
 -- `perform` is turned down where the ledger isn't well formed, and passes the call on where it is.
 use Rattle.ledger.proofs.Refusals.{malformed-answered, check-summed}
 use Rattle.calls.proofs.Performed.{performed}
-use borrow.Author.Rules.{rules}
 use Rattle.calls.proofs.perform.Goals as goal
 
 pub perform_checked-requires : goal.perform_checked-requires

@@ -1,6 +1,5 @@
 -- `perform_checked` passes the call on by its case.
 use Rattle.calls.proofs.Performed.{passed_on, passed-on-any}
-use borrow.Author.Rules.{rules}
 use Rattle.calls.proofs.perform_checked.Goals as goal
 
 pub returns-in-Open : goal.returns-in-Open

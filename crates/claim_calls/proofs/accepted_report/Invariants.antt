@@ -1,13 +1,8 @@
 -- `accepted_report` adds up the rows of the contract, one after the other.
 use Prim.Native.Nat.{◌-◌, ◌≤◌}
-use native.Mathlib.Omega.{arith}
 use Rattle.model.specs.Places.{place_of, reaches}
 use Rattle.layout.specs.Present.{facts}
-use Rattle.layout.proofs.Present.{formed-length}
-use Rattle.ledger.proofs.EachRow.{row_inside}
-use Rattle.ledger.proofs.ContractRows.{below_end}
-use Rattle.claim_calls.proofs.ReportSums.{ReportedTo, reported-begins, reported-next, rows_fit, kwh-fit, due-fit, reported-all}
-use borrow.Author.Rules.{rules}
+use Rattle.claim_calls.proofs.ReportSums.{ReportedTo}
 use Rattle.claim_calls.proofs.accepted_report.Given as goal
 
 abbrev pub invariant-loop-i : goal.invariant-loop-i

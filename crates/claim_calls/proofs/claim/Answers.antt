@@ -2,7 +2,6 @@
 use Rattle.ledger.proofs.Refusals.{header-there}
 use Rattle.signed.proofs.SignedDifferences.{signed-read}
 use Rattle.claim_calls.proofs.CallAnswers.{claim-refused, header-fits, pence-due-low, pence-low, claim-answered}
-use borrow.Author.Rules.{rules}
 use Rattle.claim_calls.proofs.claim.Goals as goal
 
 pub claims-claims-requires : goal.claims-claims-requires

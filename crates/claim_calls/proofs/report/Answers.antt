@@ -1,6 +1,5 @@
 -- `report` refuses what is malformed, and otherwise answers what `checked_report` does.
 use Rattle.ledger.proofs.Refusals.{malformed-answered, check-searched}
-use borrow.Author.Rules.{rules}
 use Rattle.claim_calls.proofs.report.Goals as goal
 
 pub checked_report-requires : goal.checked_report-requires

@@ -1,6 +1,5 @@
 -- `total` refuses what is malformed, and otherwise answers what `checked_total` does.
 use Rattle.ledger.proofs.Refusals.{malformed-answered, check-summed}
-use borrow.Author.Rules.{rules}
 use Rattle.claim_calls.proofs.total.Goals as goal
 
 pub checked_total-requires : goal.checked_total-requires

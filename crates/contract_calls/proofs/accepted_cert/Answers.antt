@@ -2,7 +2,6 @@
 use Rattle.layout.proofs.Present.{formed-length}
 use Rattle.signed.proofs.SignedDifferences.{signed-read}
 use Rattle.contract_calls.proofs.ContractAnswers.{certified-number, certified-open, certified-terms, certified-fits, new-sum-low, old-sum-low, certified}
-use borrow.Author.Rules.{rules}
 use Rattle.contract_calls.proofs.accepted_cert.Goals as goal
 
 pub contract_at-requires : goal.contract_at-requires

@@ -1,7 +1,6 @@
 -- `amend` is turned down by its number, or the contract is written with its amendment.
 use Rattle.layout.proofs.Present.{formed-length}
 use Rattle.contract_calls.proofs.ContractAnswers.{not-amended, amended-number, amended-open, amended-fits, amended}
-use borrow.Author.Rules.{rules}
 use Rattle.contract_calls.proofs.amend.Goals as goal
 
 pub returns-then-refused-ne0 : goal.returns-then-refused-ne0

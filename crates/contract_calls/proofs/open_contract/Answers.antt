@@ -1,7 +1,6 @@
 -- `open_contract` is turned down by its number, or the contract is written under its number.
 use Rattle.layout.proofs.Present.{formed-length}
 use Rattle.contract_calls.proofs.ContractAnswers.{not_opened, opened-number, opened-fits, opened}
-use borrow.Author.Rules.{rules}
 use Rattle.contract_calls.proofs.open_contract.Goals as goal
 
 pub returns-then-refused-ne0 : goal.returns-then-refused-ne0

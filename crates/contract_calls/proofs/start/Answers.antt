@@ -1,6 +1,5 @@
 -- `start` is turned down by the buffer's length or the territory, or makes the bytes a fresh ledger.
 use Rattle.contract_calls.proofs.StartAnswers.{wrong-length, wrong-territory, started}
-use borrow.Author.Rules.{rules}
 use Rattle.contract_calls.proofs.start.Goals as goal
 
 pub returns-then-ledger-ne-LEDGER_LENGTH : goal.returns-then-ledger-ne-LEDGER_LENGTH

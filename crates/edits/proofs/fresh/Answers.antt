@@ -7,7 +7,6 @@ use Rattle.records.specs.Pack.{pack}
 use Rattle.records.specs.Edits.{replace_at}
 use Rattle.layout.specs.Present.{layout}
 use Rattle.edits.proofs.PackedChanges.{fresh_ledger}
-use borrow.Author.Rules.{rules}
 use Rattle.edits.proofs.fresh.Goals as goal
 
 pub returns : goal.returns

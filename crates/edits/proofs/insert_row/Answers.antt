@@ -9,7 +9,6 @@ use Rattle.records.proofs.Edits.{part-lent}
 use Rattle.layout.specs.PresentLayout.{row_record}
 use Rattle.layout.specs.Offsets.{first_row, row_start, row_length}
 use Rattle.records.specs.OneSlot.{record_bytes}
-use borrow.Author.Rules.{rules}
 use Rattle.edits.proofs.insert_row.Goals as goal
 
 pub returns : goal.returns

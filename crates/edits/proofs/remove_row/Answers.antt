@@ -4,7 +4,6 @@ use native.Mathlib.Omega.{arith}
 use Rattle.records.specs.Edits.{remove_at}
 use Rattle.records.proofs.Edits.{part-lent}
 use Rattle.layout.specs.Offsets.{first_row, row_start, row_length}
-use borrow.Author.Rules.{rules}
 use Rattle.edits.proofs.remove_row.Goals as goal
 
 pub returns : goal.returns

@@ -14,7 +14,6 @@ use Rattle.layout.specs.Present.{row_at}
 use Rattle.layout.proofs.Present.{row-in-slot}
 use Rattle.records.proofs.Replaced.{part-written}
 use Rattle.edits.proofs.PackedChanges.{length-row}
-use borrow.Author.Rules.{rules}
 use Rattle.edits.proofs.replace_amount.Goals as goal
 
 pub put_amount-requires : goal.put_amount-requires

@@ -4,7 +4,6 @@ use Rattle.layout.specs.Offsets.{row_start, row_length}
 use Rattle.records.specs.OneSlot.{record_bytes}
 use Rattle.records.proofs.Replaced.{part-written}
 use Rattle.edits.proofs.PackedChanges.{length-row}
-use borrow.Author.Rules.{rules}
 use Rattle.edits.proofs.replace_row.Goals as goal
 
 pub returns : goal.returns

@@ -5,7 +5,6 @@ use Rattle.layout.specs.Offsets.{first_contract, contract_length}
 use Rattle.records.specs.OneSlot.{record_bytes}
 use Rattle.records.proofs.Replaced.{part-written}
 use Rattle.edits.proofs.PackedChanges.{length-contract}
-use borrow.Author.Rules.{rules}
 use Rattle.edits.proofs.write_contract.Goals as goal
 
 pub returns : goal.returns

@@ -2,7 +2,6 @@
 use Prim.Native.Nat.{◌-◌, ◌*◌}
 use native.Mathlib.Omega.{arith}
 use Rattle.fields.proofs.Windows.{get-law}
-use borrow.Author.Rules.{rules}
 use Rattle.fields.proofs.get_window.Goals as goal
 
 pub returns : goal.returns

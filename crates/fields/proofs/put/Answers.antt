@@ -3,7 +3,6 @@ use Prim.Native.Nat.{◌-◌, ◌*◌}
 use native.Mathlib.Omega.{arith}
 use lib.ListN.{length}
 use Rattle.fields.proofs.Windows.{put-law}
-use borrow.Author.Rules.{rules}
 use Rattle.fields.proofs.put.Goals as goal
 
 pub returns-then-n-lt8 : goal.returns-then-n-lt8

@@ -2,7 +2,6 @@
 use Prim.Native.Nat.{◌-◌, ◌*◌}
 use native.Mathlib.Omega.{arith}
 use Rattle.fields.proofs.Windows.{put-law}
-use borrow.Author.Rules.{rules}
 use Rattle.fields.proofs.put_window.Goals as goal
 
 pub returns : goal.returns

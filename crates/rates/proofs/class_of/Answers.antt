@@ -1,7 +1,6 @@
 -- `class_of` gives the class that the certificate gives the bill.
 use borrow.Author.Tests.{le-leb, lt-leb}
 use Rattle.rates.specs.Rates.{class_of}
-use borrow.Author.Rules.{rules}
 use Rattle.rates.proofs.class_of.Goals as goal
 
 pub returns-in-None : goal.returns-in-None

@@ -1,5 +1,4 @@
 -- `entered_early` tells a fixed contract entered before day 792: by the kind.
-use borrow.Author.Rules.{rules}
 use Rattle.rates.proofs.entered_early.Goals as goal
 
 pub returns-in-Fixed : goal.returns-in-Fixed

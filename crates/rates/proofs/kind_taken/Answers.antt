@@ -1,6 +1,5 @@
 -- `kind_taken` gives the kind that a bill takes: with the amended pair where it starts after the original end.
 use borrow.Author.Tests.{le-leb, lt-leb}
-use borrow.Author.Rules.{rules}
 use Rattle.rates.proofs.kind_taken.Goals as goal
 
 pub returns-then-original_end_day-first : goal.returns-then-original_end_day-first

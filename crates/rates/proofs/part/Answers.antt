@@ -1,6 +1,5 @@
 -- `part` computes a part of the prices: by the form in natural numbers.
 use Rattle.rates.proofs.Parts.{limited-part, unlimited-part}
-use borrow.Author.Rules.{rules}
 use Rattle.rates.proofs.part.Goals as goal
 
 pub returns-in-Limited : goal.returns-in-Limited

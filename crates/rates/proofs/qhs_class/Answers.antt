@@ -1,6 +1,6 @@
 -- `qhs_class` gives the class with the QHS minimum that applies: by the first day and the day of entry.
 use borrow.Author.Tests.{le-leb, lt-leb}
-use mathlib.Core.Path.{◌≡◌, sym, ◌∙◌}
+use mathlib.Core.Path.{sym, ◌∙◌}
 use Rattle.rates.specs.Rates.{qhs_class}
 use Rattle.rates.proofs.qhs_class.Goals as goal
 

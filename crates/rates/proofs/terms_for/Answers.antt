@@ -2,7 +2,6 @@
 use mathlib.Core.Path.{ap}
 use Rattle.rates.specs.declared.Kind.{Kind}
 use Rattle.rates.specs.TermsTaken.{terms_for}
-use borrow.Author.Rules.{rules}
 use Rattle.rates.proofs.terms_for.Goals as goal
 
 pub returns : goal.returns

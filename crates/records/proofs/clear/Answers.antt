@@ -1,11 +1,11 @@
 -- `records::clear` meets its contract. The loop's invariant: the first i bytes are zeros. The measure is how many bytes are left.
 use borrow.Author.Rules.{rules}
 use borrow.Author.Fill.{fill_none, fill_more}
-use mathlib.Core.Path.{◌≡◌, ap, ◌∙◌}
-use mathlib.Core.List.{List, ◌++◌}
-use Prim.Native.Nat.{ℕ, ◌-◌, ◌≤◌}
+use mathlib.Core.Path.{ap, ◌∙◌}
+use mathlib.Core.List.{List}
+use Prim.Native.Nat.{ℕ}
 use native.Mathlib.Omega.{arith}
-use lib.ListN.{length, set, drop, replicate, length-set}
+use lib.ListN.{set, length-set}
 use Rattle.records.proofs.Edits.{fill-all}
 use Rattle.records.proofs.clear.Goals as goal
 

@@ -1,10 +1,10 @@
 -- `records::copy_down` meets its contract. The loop's invariant: the first i bytes are copied. The measure is how many bytes are left.
 use borrow.Author.Rules.{rules}
-use mathlib.Core.Path.{◌≡◌, ap, ◌∙◌}
-use Prim.Native.Nat.{ℕ, ◌-◌, ◌≤◌}
+use mathlib.Core.Path.{ap, ◌∙◌}
+use Prim.Native.Nat.{ℕ}
 use native.Mathlib.Nat.{le_antisymm}
 use native.Mathlib.Omega.{arith}
-use lib.ListN.{length, length-set}
+use lib.ListN.{length-set}
 use Rattle.records.specs.Edits.{copied}
 use Rattle.records.proofs.Edits.{copied_none, copied-down}
 use Rattle.records.proofs.copy_down.Goals as goal

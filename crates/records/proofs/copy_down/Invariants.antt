@@ -1,12 +1,8 @@
 -- `records::copy_down` meets its contract. The loop's invariant: the first i bytes are copied. The measure is how many bytes are left.
-use borrow.Author.Rules.{rules}
-use mathlib.Core.Path.{◌≡◌, ap, ◌∙◌}
-use Prim.Native.Nat.{ℕ, ◌-◌, ◌≤◌}
-use native.Mathlib.Nat.{le_antisymm}
-use native.Mathlib.Omega.{arith}
-use lib.ListN.{length, length-set}
+use mathlib.Core.Path.{◌≡◌}
+use Prim.Native.Nat.{◌-◌, ◌≤◌}
+use lib.ListN.{length}
 use Rattle.records.specs.Edits.{copied}
-use Rattle.records.proofs.Edits.{copied_none, copied-down}
 use Rattle.records.proofs.copy_down.Given as goal
 
 abbrev pub invariant-loop-i : goal.invariant-loop-i

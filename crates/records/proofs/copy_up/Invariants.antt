@@ -1,11 +1,8 @@
 -- `records::copy_up` meets its contract. The loop's invariant: the bytes from the one of number i on are copied. The measure is i.
-use borrow.Author.Rules.{rules}
-use mathlib.Core.Path.{◌≡◌, ap, ap₂, ◌∙◌}
-use Prim.Native.Nat.{ℕ, ◌+◌, ◌-◌, ◌≤◌}
-use native.Mathlib.Omega.{arith}
-use lib.ListN.{length, length-set}
+use mathlib.Core.Path.{◌≡◌}
+use Prim.Native.Nat.{◌+◌, ◌-◌, ◌≤◌}
+use lib.ListN.{length}
 use Rattle.records.specs.Edits.{copied}
-use Rattle.records.proofs.Edits.{copied_none, copied-up}
 use Rattle.records.proofs.copy_up.Given as goal
 
 abbrev pub invariant-loop-i : goal.invariant-loop-i

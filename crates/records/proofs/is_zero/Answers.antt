@@ -2,7 +2,7 @@
 -- bytes are left.
 use borrow.Author.Rules.{rules}
 use mathlib.Core.Path.{◌≡◌, subst}
-use Prim.Native.Nat.{ℕ, ◌-◌, ◌≤◌}
+use Prim.Native.Nat.{ℕ}
 use native.Mathlib.Omega.{arith}
 use Rattle.records.proofs.Edits.{ZeroWhere, zero-none, zero-next, zero-all}
 use Rattle.records.proofs.is_zero.Goals as goal

@@ -1,10 +1,7 @@
 -- `records::is_zero` meets its contract. The loop's invariant: `bits` is zero exactly where the first i bytes are. The measure is how many
 -- bytes are left.
-use borrow.Author.Rules.{rules}
-use mathlib.Core.Path.{◌≡◌, subst}
-use Prim.Native.Nat.{ℕ, ◌-◌, ◌≤◌}
-use native.Mathlib.Omega.{arith}
-use Rattle.records.proofs.Edits.{ZeroWhere, zero-none, zero-next, zero-all}
+use Prim.Native.Nat.{◌-◌, ◌≤◌}
+use Rattle.records.proofs.Edits.{ZeroWhere}
 use Rattle.records.proofs.is_zero.Given as goal
 
 abbrev pub invariant-loop-i : goal.invariant-loop-i

@@ -1,10 +1,8 @@
 -- `records::replace` meets its contract. The loop's invariant: the first i bytes are written. The measure is how many bytes are left.
 use borrow.Author.Rules.{rules}
-use mathlib.Core.Path.{◌≡◌}
-use Prim.Native.Nat.{◌-◌, ◌≤◌}
 use native.Mathlib.Omega.{arith}
-use lib.ListN.{length, length-set}
-use lib.Seq.{paste, paste-zero}
+use lib.ListN.{length-set}
+use lib.Seq.{paste-zero}
 use Rattle.records.proofs.Edits.{paste_more, paste_all}
 use Rattle.records.proofs.replace.Goals as goal
 

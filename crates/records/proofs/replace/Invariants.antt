@@ -1,11 +1,8 @@
 -- `records::replace` meets its contract. The loop's invariant: the first i bytes are written. The measure is how many bytes are left.
-use borrow.Author.Rules.{rules}
 use mathlib.Core.Path.{◌≡◌}
 use Prim.Native.Nat.{◌-◌, ◌≤◌}
-use native.Mathlib.Omega.{arith}
-use lib.ListN.{length, length-set}
-use lib.Seq.{paste, paste-zero}
-use Rattle.records.proofs.Edits.{paste_more, paste_all}
+use lib.ListN.{length}
+use lib.Seq.{paste}
 use Rattle.records.proofs.replace.Given as goal
 
 abbrev pub invariant-loop-i : goal.invariant-loop-i

@@ -1,6 +1,5 @@
 -- `difference` reads both numbers as signed, and their difference fits.
 use Rattle.signed.proofs.SignedDifferences.{signed-difference, signed-difference-fits}
-use borrow.Author.Rules.{rules}
 use Rattle.signed.proofs.difference.Goals as goal
 
 pub overflow_sub-result : goal.overflow_sub-result

@@ -1,6 +1,5 @@
 -- `add_row` puts the row in at its place, and answers R, rate and amount.
 use Rattle.bill_calls.proofs.RowChanges.{row-rateable, insertable, row-added}
-use borrow.Author.Rules.{rules}
 use Rattle.bill_calls.proofs.rows.add_row.Goals as goal
 
 pub amount-requires : goal.amount-requires

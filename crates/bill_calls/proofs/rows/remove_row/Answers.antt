@@ -2,7 +2,6 @@
 use native.Mathlib.Omega.{arith}
 use Rattle.signed.proofs.SignedDifferences.{signed-read}
 use Rattle.bill_calls.proofs.RowChanges.{held-needs, removable, old-amount-low, row-removed}
-use borrow.Author.Rules.{rules}
 use Rattle.bill_calls.proofs.rows.remove_row.Goals as goal
 
 pub row_at-old-requires : goal.row_at-old-requires

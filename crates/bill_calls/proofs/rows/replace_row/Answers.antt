@@ -1,7 +1,6 @@
 -- `replace_row` puts the row in place of the old one, and answers R, rate and the difference.
 use Rattle.signed.proofs.SignedDifferences.{signed-read}
 use Rattle.bill_calls.proofs.RowChanges.{row-rateable, held-needs, replaceable, new-amount-low, old-amount-low, row-replaced}
-use borrow.Author.Rules.{rules}
 use Rattle.bill_calls.proofs.rows.replace_row.Goals as goal
 
 pub amount-requires : goal.amount-requires

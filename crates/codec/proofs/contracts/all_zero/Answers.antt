@@ -4,7 +4,6 @@ use Rattle.records.specs.Pack.{size}
 use Rattle.layout.specs.PresentLayout.{contract_record}
 use Rattle.records.proofs.SlotTests.{zero-numbers}
 use Rattle.codec.proofs.WholeSlots.{contract-widths}
-use borrow.Author.Rules.{rules}
 use Rattle.codec.proofs.contracts.all_zero.Goals as goal
 
 pub returns : goal.returns

@@ -3,7 +3,6 @@ use mathlib.Core.Path.{ap, ◌∙◌}
 use mathlib.Core.List.{List}
 use Prim.Native.Nat.{ℕ}
 use Rattle.model.specs.PresentRules.{contract_ranges}
-use borrow.Author.Rules.{rules}
 use Rattle.codec.proofs.contracts.in_ranges.Goals as goal
 
 pub returns : goal.returns

@@ -2,7 +2,6 @@
 use Rattle.fields.specs.Fields.{fields}
 use Rattle.records.specs.Pack.{unpack}
 use Rattle.records.specs.OneSlot.{is_taken, slot_numbers}
-use borrow.Author.Rules.{rules}
 use Rattle.codec.proofs.contracts.is_open.Goals as goal
 
 pub returns : goal.returns

@@ -2,7 +2,6 @@
 use Rattle.fields.specs.Fields.{fields}
 use Rattle.records.specs.Pack.{unpack}
 use Rattle.records.specs.OneSlot.{slot_numbers}
-use borrow.Author.Rules.{rules}
 use Rattle.codec.proofs.contracts.numbers_in.Goals as goal
 
 pub returns : goal.returns

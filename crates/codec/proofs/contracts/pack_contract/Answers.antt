@@ -3,7 +3,6 @@ use Rattle.records.specs.Pack.{size}
 use Rattle.layout.specs.PresentLayout.{contract_record}
 use Rattle.records.proofs.WrittenSlots.{slot-writable, slot-written}
 use Rattle.codec.proofs.WholeSlots.{contract-widths}
-use borrow.Author.Rules.{rules}
 use Rattle.codec.proofs.contracts.pack_contract.Goals as goal
 
 pub put_all-requires : goal.put_all-requires

@@ -3,7 +3,6 @@ use Rattle.fields.specs.Fields.{fields}
 use Rattle.records.specs.Pack.{unpack}
 use Rattle.records.specs.OneSlot.{slot_numbers}
 use Rattle.records.proofs.SlotTests.{zeros-set}
-use borrow.Author.Rules.{rules}
 use Rattle.codec.proofs.contracts.padding_set.Goals as goal
 
 pub returns : goal.returns

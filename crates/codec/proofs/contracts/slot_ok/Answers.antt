@@ -1,6 +1,5 @@
 -- `slot_ok` is the test of a slot: by its padding and its first bit.
 use Rattle.records.proofs.SlotTests.{slot-tests}
-use borrow.Author.Rules.{rules}
 use Rattle.codec.proofs.contracts.slot_ok.Goals as goal
 
 pub returns-then-padding_set : goal.returns-then-padding_set

@@ -2,7 +2,6 @@
 use mathlib.Core.Path.{ap, ◌∙◌}
 use Rattle.model.specs.ContractNumbers.{contract_of_numbers}
 use Rattle.records.specs.OneSlot.{record_in}
-use borrow.Author.Rules.{rules}
 use Rattle.codec.proofs.contracts.unpack_contract.Goals as goal
 
 pub returns : goal.returns

@@ -2,7 +2,6 @@
 use Rattle.fields.specs.Fields.{fields}
 use Rattle.records.specs.Pack.{unpack}
 use Rattle.layout.specs.Layout.{pence_in}
-use borrow.Author.Rules.{rules}
 use Rattle.codec.proofs.header.pence.Goals as goal
 
 pub returns : goal.returns

@@ -1,6 +1,5 @@
 -- `put_amount` writes one field of the slot.
 use Rattle.codec.proofs.AmountWritten.{amount-written}
-use borrow.Author.Rules.{rules}
 use Rattle.codec.proofs.rows.put_amount.Goals as goal
 
 pub returns : goal.returns

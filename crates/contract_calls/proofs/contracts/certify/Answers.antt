@@ -2,7 +2,6 @@
 use mathlib.Core.Path.{ap}
 use Rattle.rates.specs.declared.Certificate.{Certificate}
 use Rattle.model.specs.Codes.{certify}
-use borrow.Author.Rules.{rules}
 use Rattle.contract_calls.proofs.contracts.certify.Goals as goal
 
 pub returns : goal.returns

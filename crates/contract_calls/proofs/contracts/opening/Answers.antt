@@ -5,7 +5,6 @@ use Rattle.rates.specs.declared.Kind.{Kind}
 use Rattle.rates.specs.declared.Certificate.TheVariants.{None}
 use Rattle.rates.specs.declared.Amendment.TheVariants.{Unamended}
 use Rattle.model.specs.Codes.{opening}
-use borrow.Author.Rules.{rules}
 use Rattle.contract_calls.proofs.contracts.opening.Goals as goal
 
 pub returns : goal.returns

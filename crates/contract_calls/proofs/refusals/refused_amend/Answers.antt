@@ -4,7 +4,6 @@ use Rattle.model.specs.PresentRules.{tests}
 use Rattle.layout.proofs.Present.{formed-length}
 use Rattle.ledger.proofs.Refusals.{refusals, open-refused, open-passed, contract-low, contract-open}
 use Rattle.contract_calls.proofs.ContractAnswers.{amendable-found, end_low}
-use borrow.Author.Rules.{rules}
 use Rattle.contract_calls.proofs.refusals.refused_amend.Goals as goal
 
 pub refused_contract-refused-requires : goal.refused_contract-refused-requires

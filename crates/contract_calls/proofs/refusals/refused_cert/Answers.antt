@@ -3,7 +3,6 @@ use Rattle.model.specs.Rules.{refusal}
 use Rattle.model.specs.PresentRules.{tests}
 use Rattle.layout.proofs.Present.{formed-length}
 use Rattle.ledger.proofs.Refusals.{refusals, open-refused, open-passed}
-use borrow.Author.Rules.{rules}
 use Rattle.contract_calls.proofs.refusals.refused_cert.Goals as goal
 
 pub refused_contract-refused-requires : goal.refused_contract-refused-requires

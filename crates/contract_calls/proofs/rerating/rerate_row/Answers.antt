@@ -1,6 +1,5 @@
 -- `rerate_row` leaves the row of its slot re-rated: by whether it has shares, and by whether its amount changes.
 use Rattle.contract_calls.proofs.RowRerating.{bill-rateable, bill-whole, shares-stay, amount-stays, new-amount-low, amount-changes}
-use borrow.Author.Rules.{rules}
 use Rattle.contract_calls.proofs.rerating.rerate_row.Goals as goal
 
 pub returns-then-has_shares : goal.returns-then-has_shares

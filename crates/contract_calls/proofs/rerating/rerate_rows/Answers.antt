@@ -1,7 +1,5 @@
 -- `rerate_rows` re-rates one row of the contract after the other.
-use Prim.Native.Nat.{◌-◌}
-use Rattle.contract_calls.proofs.RowsRerating.{Passed, none_passed, passed_length, next-slot, row-passed, old-fits, new-fits, changed-fits, all-passed}
-use borrow.Author.Rules.{rules}
+use Rattle.contract_calls.proofs.RowsRerating.{none_passed, passed_length, next-slot, row-passed, old-fits, new-fits, changed-fits, all-passed}
 use Rattle.contract_calls.proofs.rerating.rerate_rows.Goals as goal
 
 pub loop-i-init : goal.loop-i-init

@@ -1,7 +1,6 @@
 -- `rerate_rows` re-rates one row of the contract after the other.
 use Prim.Native.Nat.{◌-◌}
-use Rattle.contract_calls.proofs.RowsRerating.{Passed, none_passed, passed_length, next-slot, row-passed, old-fits, new-fits, changed-fits, all-passed}
-use borrow.Author.Rules.{rules}
+use Rattle.contract_calls.proofs.RowsRerating.{Passed}
 use Rattle.contract_calls.proofs.rerating.rerate_rows.Given as goal
 
 abbrev pub invariant-loop-i : goal.invariant-loop-i

@@ -1,5 +1,4 @@
 -- `fields::word::extract` meets its contract: the mask is w ones, and `and` with it is the remainder by 2 to the power of w.
-use borrow.Author.Rules.{rules}
 use Rattle.fields.proofs.Words.{one-shl-pos, extract-law}
 use Rattle.fields.proofs.word.extract.Goals as goal
 

@@ -1,5 +1,4 @@
 -- `fields::word::insert` meets its contract: `and` clears the w bits, and `or` fills them with v.
-use borrow.Author.Rules.{rules}
 use Rattle.fields.proofs.Words.{one-shl-pos, insert-law}
 use Rattle.fields.proofs.word.insert.Goals as goal
 

@@ -1,12 +1,11 @@
 -- `fields::word::load` meets its contract. The loop's invariant: x is the number of the first j bytes, shifted past the others.
 -- The measure is how many bytes are left.
-use mathlib.Core.Path.{◌≡◌, sym, ◌∙◌}
-use Prim.Native.Nat.{◌-◌, ◌*◌, ◌^◌, ◌≤◌}
+use mathlib.Core.Path.{sym, ◌∙◌}
+use Prim.Native.Nat.{◌-◌, ◌*◌}
 use native.Mathlib.Nat.{le_antisymm}
 use native.Mathlib.Omega.{arith}
-use lib.ListN.{take, drop, length-drop}
+use lib.ListN.{drop, length-drop}
 use lib.Seq.{get_or-drop}
-use Rattle.fields.specs.Field.{value, bits}
 use Rattle.fields.proofs.Laws.{are-drop}
 use Rattle.fields.proofs.Words.{load-none, load_step, load-all}
 use Rattle.fields.proofs.word.load.Goals as goal

@@ -1,14 +1,9 @@
 -- `fields::word::load` meets its contract. The loop's invariant: x is the number of the first j bytes, shifted past the others.
 -- The measure is how many bytes are left.
-use mathlib.Core.Path.{◌≡◌, sym, ◌∙◌}
+use mathlib.Core.Path.{◌≡◌}
 use Prim.Native.Nat.{◌-◌, ◌*◌, ◌^◌, ◌≤◌}
-use native.Mathlib.Nat.{le_antisymm}
-use native.Mathlib.Omega.{arith}
-use lib.ListN.{take, drop, length-drop}
-use lib.Seq.{get_or-drop}
+use lib.ListN.{take, drop}
 use Rattle.fields.specs.Field.{value, bits}
-use Rattle.fields.proofs.Laws.{are-drop}
-use Rattle.fields.proofs.Words.{load-none, load_step, load-all}
 use Rattle.fields.proofs.word.load.Given as goal
 
 abbrev pub invariant-loop-j : goal.invariant-loop-j

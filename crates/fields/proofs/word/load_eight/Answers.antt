@@ -2,7 +2,6 @@
 use mathlib.Core.Path.{ap, ◌∙◌}
 use Rattle.fields.specs.Words.{reversed}
 use Rattle.fields.proofs.Words.{reversed-little}
-use borrow.Author.Rules.{rules}
 use Rattle.fields.proofs.word.load_eight.Goals as goal
 
 pub returns : goal.returns

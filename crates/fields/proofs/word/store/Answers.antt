@@ -1,9 +1,9 @@
 -- `fields::word::store` meets its contract. The loop's invariant: the first j bytes are stored. The measure is how many bytes are left.
-use mathlib.Core.Path.{◌≡◌, refl, ap, ◌∙◌}
-use Prim.Native.Nat.{◌*◌, ◌-◌, ◌≤◌}
+use mathlib.Core.Path.{refl, ap, ◌∙◌}
+use Prim.Native.Nat.{◌*◌}
 use native.Mathlib.Nat.{le_antisymm}
 use native.Mathlib.Omega.{arith}
-use lib.ListN.{length, length-set}
+use lib.ListN.{length-set}
 use lib.Seq.{paste, paste-zero}
 use Rattle.fields.specs.Field.{bytes_of_bits, bits_of}
 use Rattle.fields.proofs.Words.{store_step}

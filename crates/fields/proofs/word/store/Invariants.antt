@@ -1,12 +1,9 @@
 -- `fields::word::store` meets its contract. The loop's invariant: the first j bytes are stored. The measure is how many bytes are left.
-use mathlib.Core.Path.{◌≡◌, refl, ap, ◌∙◌}
+use mathlib.Core.Path.{◌≡◌}
 use Prim.Native.Nat.{◌*◌, ◌-◌, ◌≤◌}
-use native.Mathlib.Nat.{le_antisymm}
-use native.Mathlib.Omega.{arith}
-use lib.ListN.{length, length-set}
-use lib.Seq.{paste, paste-zero}
+use lib.ListN.{length}
+use lib.Seq.{paste}
 use Rattle.fields.specs.Field.{bytes_of_bits, bits_of}
-use Rattle.fields.proofs.Words.{store_step}
 use Rattle.fields.proofs.word.store.Given as goal
 
 abbrev pub invariant-loop-j : goal.invariant-loop-j

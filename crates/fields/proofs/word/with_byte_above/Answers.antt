@@ -1,6 +1,5 @@
 -- `with_byte_above` meets its contract: the byte's bits and those of x are apart.
 use Rattle.fields.proofs.Words.{with_byte}
-use borrow.Author.Rules.{rules}
 use Rattle.fields.proofs.word.with_byte_above.Goals as goal
 
 pub returns : goal.returns

@@ -1,11 +1,9 @@
 -- `check` is the well-formed test with its counts: by its parts.
 use mathlib.Core.Path.{sym, ◌∙◌}
 use native.Mathlib.Omega.{arith}
-use Rattle.basics.proofs.Tests.{not_yes, not-no}
 use Rattle.layout.specs.Present.{rules, layout}
 use Rattle.layout.proofs.Lawful.{offsets}
 use Rattle.layout.proofs.CheckedParts.{other_length, header-malformed, contracts-malformed, rows-checked}
-use borrow.Author.Rules.{rules as tactics}
 use Rattle.ledger.proofs.check.check.Goals as goal
 
 pub returns-then-b-ne-LEDGER_LENGTH : goal.returns-then-b-ne-LEDGER_LENGTH

@@ -1,6 +1,5 @@
 -- `check_rest` tests that zeros follow to the end.
 use mathlib.Core.Path.{sym, ◌∙◌}
-use borrow.Author.Rules.{rules}
 use Rattle.ledger.proofs.check.check_rest.Goals as goal
 
 pub returns-then-is_zero : goal.returns-then-is_zero

@@ -1,18 +1,11 @@
 -- `check_rows` goes over the slots once: what is found of the rest, with the rows and their amounts so far and the contract and last day of
 -- the last row, is what is to be found.
-use mathlib.Core.Path.{◌≡◌, sym, ◌∙◌}
-use mathlib.Core.Logic.{⊎_elim}
+use mathlib.Core.Path.{◌≡◌}
 use Prim.Native.Nat.{◌-◌}
-use native.Mathlib.Omega.{arith}
 use Rattle.limits.specs.Limits.{row_count}
-use Rattle.basics.proofs.Tests.{not_yes, not-no}
 use Rattle.layout.specs.Present.{rules, layout, contracts}
-use Rattle.layout.proofs.Lawful.{offsets}
-use Rattle.layout.proofs.Present.{present}
-use Rattle.layout.proofs.RowChecks.{Passing, pass-begins, pass-ends, rows-rest, slot-malformed, row-malformed, row-adds, row-passed}
+use Rattle.layout.proofs.RowChecks.{Passing}
 use Rattle.ledger.specs.Rows.{contract_slot_of}
-use Rattle.ledger.proofs.RowTests.{contract-low, same-slot, row-tested}
-use borrow.Author.Rules.{rules as tactics}
 use Rattle.ledger.proofs.check.check_rows.Given as goal
 
 abbrev pub invariant-loop-i : goal.invariant-loop-i

@@ -1,6 +1,5 @@
 -- `follows` is the test of a row by its contract and by the row before it.
 use Rattle.ledger.proofs.RowTests.{not_after, is-after}
-use borrow.Author.Rules.{rules}
 use Rattle.ledger.proofs.check.follows.Goals as goal
 
 pub returns-then-not-comes_after : goal.returns-then-not-comes_after

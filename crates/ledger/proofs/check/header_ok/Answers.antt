@@ -1,14 +1,12 @@
 -- `header_ok` is the header's tests: by the tests on the way to each return.
 use mathlib.Core.Path.{◌≡◌, sym, ◌∙◌}
 use mathlib.Core.Bool.{true, false}
-use Prim.Native.Nat.{ℕ}
 use lib.Dec.{leb}
 use borrow.Author.Tests.{le-leb, lt-leb, ne_eqb}
 use Rattle.limits.specs.Limits.{most_claims}
 use Rattle.layout.specs.Layout.{claims_in}
 use Rattle.layout.specs.Check.{header_ok}
 use Rattle.layout.specs.Present.{rules, layout}
-use borrow.Author.Rules.{rules as tactics}
 use Rattle.ledger.proofs.check.header_ok.Goals as goal
 
 pub returns-then-claims-gt-MOST_CLAIMS : goal.returns-then-claims-gt-MOST_CLAIMS

@@ -1,6 +1,5 @@
 -- `row_ok` is the test of a row under its contract, by what its tests find.
 use Rattle.ledger.proofs.RowTests.{outside, rateable, part-tested}
-use borrow.Author.Rules.{rules}
 use Rattle.ledger.proofs.check.row_ok.Goals as goal
 
 pub returns-then-not-bill_ok : goal.returns-then-not-bill_ok

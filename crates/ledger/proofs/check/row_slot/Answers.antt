@@ -1,6 +1,5 @@
 -- `row_slot` reads a slot: it is free, or a bit of its zeros is set, or it holds a row.
 use Rattle.ledger.proofs.RowTests.{slot-free, slot-bad, slot_held}
-use borrow.Author.Rules.{rules}
 use Rattle.ledger.proofs.check.row_slot.Goals as goal
 
 pub returns-then-not-is_held : goal.returns-then-not-is_held

@@ -8,7 +8,6 @@ use Rattle.records.proofs.OneSlot.{part-lent}
 use Rattle.layout.proofs.Present.{present}
 use Rattle.layout.proofs.Access.{contract-read}
 use Rattle.layout.proofs.Lawful.{offsets}
-use borrow.Author.Rules.{rules}
 use Rattle.ledger.proofs.contracts.contract_at.Goals as goal
 
 pub returns : goal.returns

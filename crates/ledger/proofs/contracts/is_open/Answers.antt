@@ -8,7 +8,6 @@ use Rattle.records.proofs.OneSlot.{part-lent}
 use Rattle.layout.proofs.Present.{present}
 use Rattle.layout.proofs.Access.{contract-open}
 use Rattle.layout.proofs.Lawful.{offsets}
-use borrow.Author.Rules.{rules}
 use Rattle.ledger.proofs.contracts.is_open.Goals as goal
 
 pub returns : goal.returns

@@ -3,7 +3,6 @@ use Rattle.model.specs.Ledger.{view}
 use Rattle.model.specs.PresentRules.{open_tests}
 use Rattle.layout.specs.Layout.{ledger_of}
 use Rattle.ledger.proofs.Refusals.{refusals}
-use borrow.Author.Rules.{rules}
 use Rattle.ledger.proofs.contracts.refused_contract.Goals as goal
 
 pub returns-then-c-ge-CONTRACT_COUNT : goal.returns-then-c-ge-CONTRACT_COUNT

@@ -2,7 +2,6 @@
 use Rattle.layout.proofs.Present.{formed-length}
 use Rattle.ledger.proofs.EachRow.{row_inside}
 use Rattle.ledger.proofs.Search.{none-ends, first_ends}
-use borrow.Author.Rules.{rules}
 use Rattle.ledger.proofs.rows.ends_after.Goals as goal
 
 pub returns-then-rows-place : goal.returns-then-rows-place

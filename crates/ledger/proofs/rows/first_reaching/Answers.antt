@@ -1,11 +1,9 @@
 -- `first_reaching` halves the rows among which the place is.
-use Prim.Native.Nat.{◌+◌, ◌-◌, ◌/◌, ◌≤◌, ◌<◌}
+use Prim.Native.Nat.{◌+◌, ◌-◌, ◌/◌, ◌<◌}
 use native.Mathlib.Omega.{arith}
-use Rattle.model.specs.Places.{reaches}
 use Rattle.layout.proofs.Present.{formed-length}
 use Rattle.ledger.proofs.EachRow.{row_inside}
-use Rattle.ledger.proofs.Search.{Between, search-begins, row-passes, upper-half, search-ends}
-use borrow.Author.Rules.{rules}
+use Rattle.ledger.proofs.Search.{search-begins, row-passes, upper-half, search-ends}
 use Rattle.ledger.proofs.rows.first_reaching.Goals as goal
 
 pub loop-low-init : goal.loop-low-init

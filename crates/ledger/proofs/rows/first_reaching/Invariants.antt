@@ -1,11 +1,7 @@
 -- `first_reaching` halves the rows among which the place is.
-use Prim.Native.Nat.{◌+◌, ◌-◌, ◌/◌, ◌≤◌, ◌<◌}
-use native.Mathlib.Omega.{arith}
+use Prim.Native.Nat.{◌-◌, ◌≤◌}
 use Rattle.model.specs.Places.{reaches}
-use Rattle.layout.proofs.Present.{formed-length}
-use Rattle.ledger.proofs.EachRow.{row_inside}
-use Rattle.ledger.proofs.Search.{Between, search-begins, row-passes, upper-half, search-ends}
-use borrow.Author.Rules.{rules}
+use Rattle.ledger.proofs.Search.{Between}
 use Rattle.ledger.proofs.rows.first_reaching.Given as goal
 
 abbrev pub invariant-loop-low : goal.invariant-loop-low

@@ -2,7 +2,6 @@
 use Rattle.layout.proofs.Present.{formed-length}
 use Rattle.ledger.proofs.EachRow.{row_inside}
 use Rattle.ledger.proofs.Search.{named_none, named-there, named_other}
-use borrow.Author.Rules.{rules}
 use Rattle.ledger.proofs.rows.place_named.Goals as goal
 
 pub returns-then-rows-place : goal.returns-then-rows-place

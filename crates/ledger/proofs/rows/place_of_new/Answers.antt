@@ -1,11 +1,10 @@
 -- `place_of_new` goes over the rows up to the first that sorts after the new one.
-use Prim.Native.Nat.{◌-◌, ◌≤◌, ◌<◌}
+use Prim.Native.Nat.{◌<◌}
 use native.Mathlib.Omega.{arith}
 use Rattle.model.specs.Ledger.{comes_after}
 use Rattle.layout.proofs.Present.{formed-length}
 use Rattle.ledger.proofs.EachRow.{row_inside}
-use Rattle.ledger.proofs.Search.{Between, search-begins, row-passes, row-fails, search-ends}
-use borrow.Author.Rules.{rules}
+use Rattle.ledger.proofs.Search.{search-begins, row-passes, row-fails, search-ends}
 use Rattle.ledger.proofs.rows.place_of_new.Goals as goal
 
 pub loop-i-init : goal.loop-i-init

@@ -5,7 +5,6 @@ use Rattle.layout.specs.Offsets.{row_start, row_length}
 use Rattle.records.specs.OneSlot.{record_in}
 use Rattle.records.proofs.OneSlot.{part-lent}
 use Rattle.layout.proofs.Present.{row-in-slot}
-use borrow.Author.Rules.{rules}
 use Rattle.ledger.proofs.rows.row_at.Goals as goal
 
 pub returns : goal.returns

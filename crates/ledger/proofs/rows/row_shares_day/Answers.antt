@@ -2,7 +2,6 @@
 use Rattle.layout.proofs.Present.{formed-length}
 use Rattle.ledger.proofs.EachRow.{row_inside}
 use Rattle.ledger.proofs.Search.{first-none, first-there}
-use borrow.Author.Rules.{rules}
 use Rattle.ledger.proofs.rows.row_shares_day.Goals as goal
 
 pub returns-then-rows-i : goal.returns-then-rows-i

@@ -1,6 +1,5 @@
 -- `get_window` reads a field: it has at most 32 bits, so it fits.
 use Rattle.records.proofs.NarrowFields.{narrow}
-use borrow.Author.Rules.{rules}
 use Rattle.records.proofs.numbers.get_window.Goals as goal
 
 pub overflow_cast-result : goal.overflow_cast-result

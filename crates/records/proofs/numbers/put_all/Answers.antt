@@ -1,8 +1,6 @@
 -- `put_all` sets the fields, one width more with each turn.
-use Prim.Native.Nat.{◌-◌}
 use native.Mathlib.Omega.{arith}
-use lib.ListN.{length}
-use Rattle.records.proofs.WrittenFields.{Written, written_none, counted, next-wide, next-narrow, next-inside, next_fits, next-counts, written_next, written_all}
+use Rattle.records.proofs.WrittenFields.{written_none, counted, next-wide, next-narrow, next-inside, next_fits, next-counts, written_next, written_all}
 use borrow.Author.Rules.{rules}
 use Rattle.records.proofs.numbers.put_all.Goals as goal
 

@@ -1,9 +1,7 @@
 -- `put_all` sets the fields, one width more with each turn.
 use Prim.Native.Nat.{◌-◌}
-use native.Mathlib.Omega.{arith}
 use lib.ListN.{length}
-use Rattle.records.proofs.WrittenFields.{Written, written_none, counted, next-wide, next-narrow, next-inside, next_fits, next-counts, written_next, written_all}
-use borrow.Author.Rules.{rules}
+use Rattle.records.proofs.WrittenFields.{Written}
 use Rattle.records.proofs.numbers.put_all.Given as goal
 
 abbrev pub invariant-loop-j : goal.invariant-loop-j

@@ -1,8 +1,5 @@
 -- `bad_book` is the test of a book: its length, and the highest of its entries.
-use Prim.Native.Nat.{◌-◌}
-use lib.ListN.{length}
-use Rattle.rules.proofs.Books.{HighestTo, book-length, highest-none, highest-next, book-tested}
-use borrow.Author.Rules.{rules}
+use Rattle.rules.proofs.Books.{book-length, highest-none, highest-next, book-tested}
 use Rattle.rules.proofs.book.bad_book.Goals as goal
 
 pub returns-then-book-ne-BOOK_LENGTH : goal.returns-then-book-ne-BOOK_LENGTH

@@ -1,8 +1,7 @@
 -- `bad_book` is the test of a book: its length, and the highest of its entries.
 use Prim.Native.Nat.{◌-◌}
 use lib.ListN.{length}
-use Rattle.rules.proofs.Books.{HighestTo, book-length, highest-none, highest-next, book-tested}
-use borrow.Author.Rules.{rules}
+use Rattle.rules.proofs.Books.{HighestTo}
 use Rattle.rules.proofs.book.bad_book.Given as goal
 
 abbrev pub invariant-loop-i : goal.invariant-loop-i

@@ -1,6 +1,5 @@
 -- `no_price` is the test `no_price`: by whether the kind is flexible.
 use Rattle.model.specs.PresentRules.{no_price}
-use borrow.Author.Rules.{rules}
 use Rattle.rules.proofs.book.no_price.Goals as goal
 
 pub returns-then-is_flexible : goal.returns-then-is_flexible

@@ -1,6 +1,5 @@
 -- `price_at` reads the entry.
 use Rattle.rules.proofs.Books.{entry_past}
-use borrow.Author.Rules.{rules}
 use Rattle.rules.proofs.book.price_at.Goals as goal
 
 pub returns : goal.returns

@@ -1,7 +1,6 @@
 -- `reference` is the reference price by the terms: by whether they are flexible.
 use Rattle.model.specs.Book.{reference}
 use Rattle.rules.proofs.Prices.{prices}
-use borrow.Author.Rules.{rules}
 use Rattle.rules.proofs.book.reference.Goals as goal
 
 pub returns-then-is_flexible : goal.returns-then-is_flexible

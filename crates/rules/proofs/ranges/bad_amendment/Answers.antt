@@ -1,7 +1,6 @@
 -- `bad_amendment` is the test `bad_amendment`: by the flag and the tests on the way to each return.
 use Rattle.model.specs.PresentRules.{bad_amendment}
 use Rattle.basics.proofs.TestChains.{chain}
-use borrow.Author.Rules.{rules}
 use Rattle.rules.proofs.ranges.bad_amendment.Goals as goal
 
 pub returns-then-original_end_day-ne0 : goal.returns-then-original_end_day-ne0

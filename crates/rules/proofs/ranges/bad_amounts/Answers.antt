@@ -1,7 +1,6 @@
 -- `bad_amounts` is the test `bad_amounts`: by the tests on the way to each return.
 use Rattle.model.specs.PresentRules.{bad_amounts}
 use Rattle.basics.proofs.TestChains.{chain}
-use borrow.Author.Rules.{rules}
 use Rattle.rules.proofs.ranges.bad_amounts.Goals as goal
 
 pub returns-then-request-gt-MOST_KWH_GIVEN : goal.returns-then-request-gt-MOST_KWH_GIVEN

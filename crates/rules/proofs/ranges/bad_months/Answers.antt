@@ -1,6 +1,5 @@
 -- `bad_months` is the test `bad_months`: by whether prices of the kind are monthly.
 use Rattle.model.specs.PresentRules.{bad_months}
-use borrow.Author.Rules.{rules}
 use Rattle.rules.proofs.ranges.bad_months.Goals as goal
 
 pub returns-then-is_monthly : goal.returns-then-is_monthly

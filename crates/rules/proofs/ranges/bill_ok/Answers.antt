@@ -1,7 +1,6 @@
 -- `bill_ok` is the test `bill_ok`: by the tests on the way to each return.
 use Rattle.model.specs.PresentRules.{bill_ok}
 use Rattle.basics.proofs.TestChains.{chain}
-use borrow.Author.Rules.{rules}
 use Rattle.rules.proofs.ranges.bill_ok.Goals as goal
 
 pub returns-then-bad_span : goal.returns-then-bad_span

@@ -1,7 +1,6 @@
 -- `contract_ranges` is the test `contract_ranges`: by the tests on the way to each return.
 use Rattle.model.specs.PresentRules.{contract_ranges}
 use Rattle.basics.proofs.TestChains.{chain}
-use borrow.Author.Rules.{rules}
 use Rattle.rules.proofs.ranges.contract_ranges.Goals as goal
 
 pub returns-then-bad_kind : goal.returns-then-bad_kind

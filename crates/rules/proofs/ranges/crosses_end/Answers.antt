@@ -1,6 +1,5 @@
 -- `crosses_end` tells a span that starts on or before the original end and ends after it.
 use borrow.Author.Tests.{le-leb, lt-leb}
-use borrow.Author.Rules.{rules}
 use Rattle.rules.proofs.ranges.crosses_end.Goals as goal
 
 pub returns-then-first-original_end_day : goal.returns-then-first-original_end_day

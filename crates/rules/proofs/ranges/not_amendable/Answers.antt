@@ -1,6 +1,5 @@
 -- `not_amendable` is the test `not_amendable`: by whether the kind is fixed.
 use Rattle.model.specs.PresentRules.{not_amendable}
-use borrow.Author.Rules.{rules}
 use Rattle.rules.proofs.ranges.not_amendable.Goals as goal
 
 pub returns-then-is_fixed : goal.returns-then-is_fixed

@@ -1,7 +1,6 @@
 -- `Gas::prices` gives the prices of a class of gas, by the class.
 use mathlib.Core.Path.{sym, ap}
 use Rattle.rates.specs.Prices.{gas}
-use borrow.Author.Rules.{rules}
 use Rattle.rates.proofs.fuels.Gas.prices.Goals as goal
 
 pub returns-in-Baseline : goal.returns-in-Baseline
