@@ -18,6 +18,12 @@ const VALUE: Node<'static> = Node {
     name: "all-established",
 };
 
+/// The value again, which the crate that asks has from the other, by the record's name.
+const ASKED: Node<'static> = Node {
+    file: "crates/asked/proofs/Asked.antt",
+    name: "asked",
+};
+
 /// What is wrong with a statement on the page.
 const UNREACHED: &str = "is reached neither from the record Established nor from a contract";
 
@@ -31,6 +37,7 @@ pub fn errors(page: &Page, repository: &Repository) -> Vec<String> {
         unknown_imports(repository),
         undeclared_files(repository),
         not_established(&graph),
+        not_asked(&graph),
         unreached_statements(page, &graph),
         unread_files(page, &graph),
         dead_definitions(repository, &graph),
@@ -73,6 +80,23 @@ fn not_established(graph: &Graph) -> Vec<String> {
     errors
 }
 
+/// That the crate that asks doesn't ask for the record, or doesn't have it from the value.
+fn not_asked(graph: &Graph) -> Vec<String> {
+    let Node { file, name } = ASKED;
+    let asks = [RECORD, VALUE]
+        .iter()
+        .all(|node| graph.refers(ASKED, *node));
+    let error = format!(
+        "{file}: {name} isn't {} of type {}",
+        VALUE.name, RECORD.name
+    );
+    if asks {
+        Vec::new()
+    } else {
+        vec![error]
+    }
+}
+
 /// Statements on the page that are reached neither from the record nor from a contract.
 fn unreached_statements(page: &Page, graph: &Graph) -> Vec<String> {
     let reached = graph.reached(graph.contracts.iter().copied().chain([RECORD]));
@@ -96,12 +120,12 @@ fn unread_files(page: &Page, graph: &Graph) -> Vec<String> {
 }
 
 /// Definitions that are reached neither from the record and its value nor from the contract or the
-/// proof of a function.
+/// proof of a function. What attributes give to the tactics is of proofs.
 fn dead_definitions(repository: &Repository, graph: &Graph) -> Vec<String> {
-    let contracts = graph.contracts.iter().copied();
+    let contracts = graph.contracts.iter().chain(&graph.tactics).copied();
     let functions = contracts.chain(repository.function_proofs());
     let reached = graph.reached(functions.chain([RECORD, VALUE]));
-    let definitions = repository.definitions();
+    let definitions = repository.product_definitions();
     let dead = definitions.filter(|(node, _)| !reached.contains(node));
     dead.map(|(Node { file, name }, definition)| {
         let line = definition.line;
@@ -115,8 +139,9 @@ mod tests {
     use super::*;
     use crate::repository::repository;
 
-    /// A statement with its proof, the record and its value, and a function with its proof.
-    const FILES: [(&str, &str); 11] = [
+    /// A statement with its proof, the record and its value, functions with their proofs, and a crate
+    /// that asks for the record.
+    const FILES: [(&str, &str); 15] = [
         ("crates/a/specs/Lib.antt", "pub mod Sums"),
         (
             "crates/a/specs/Sums.antt",
@@ -125,32 +150,51 @@ mod tests {
         ("crates/a/proofs/Lib.antt", "pub mod Sums\nmod Steps"),
         (
             "crates/a/proofs/Sums.antt",
-            "use Rattle·a·specs.specs.Sums.{SumsMeet}\n\
+            "use Rattle.a.specs.Sums.{SumsMeet}\n\
              pub sums-meet : SumsMeet\nsums-meet = help\n\nhelp : A",
         ),
-        ("crates/a/proofs/Steps.antt", "pub step : A"),
+        ("crates/a/proofs/Steps.antt", "pub step : A\n\npub turn : A"),
         (
             "crates/a/proofs/f/Proof.antt",
-            "use Rattle·a·proofs.proofs.Steps.{step}\n\
-             returns : A\nreturns = step\n\npub f-spec : A\nf-spec = returns",
+            "use Rattle.a.proofs.Steps.{step}\n\
+             returns : A\nreturns = step\n\npub f_spec : A\nf_spec = returns",
+        ),
+        (
+            "crates/a/proofs/m/g/Invariants.antt",
+            "use Rattle.a.proofs.m.g.Given as goal\n\
+             abbrev pub invariant-loop-i : goal.invariant-loop-i\ninvariant-loop-i l = most l.i\n\n\
+             most : A",
+        ),
+        (
+            "crates/a/proofs/m/g/Answers.antt",
+            "use Rattle.a.proofs.Sums.{sums-meet}\nuse Rattle.a.proofs.m.g.Goals as goal\n\
+             pub returns : goal.returns\nreturns c = kept c.loop-i.invariant\n\nkept : A",
         ),
         (
             "crates/a/src/lib.rt",
-            "ghost use Rattle·a·specs.specs.Sums.{spare};\n\
-             fn f()\n    ensures { λ r. spare }\n{\n}",
+            "ghost use Rattle.a.specs.Sums.{spare};\n\
+             fn f()\n    ensures { spare }\n{\n}\n\n\
+             #[tactic(auto, using(crate::proofs::Steps::turn))]\nfn h() {}",
         ),
         ("crates/established/specs/Lib.antt", "pub mod Established"),
         (
             RECORD.file,
-            "use Rattle·a.specs.Sums.{SumsMeet}\n\
+            "use Rattle.a.specs.Sums.{SumsMeet}\n\
              pub record Established : Type 0 where\n  pub sums : SumsMeet",
         ),
         ("crates/established/proofs/Lib.antt", "pub mod Established"),
         (
             VALUE.file,
-            "use Rattle·a.proofs.Sums.{sums-meet}\n\
-             use Rattle·established·specs.specs.Established.{Established}\n\
+            "use Rattle.a.proofs.Sums.{sums-meet}\n\
+             use Rattle.established.specs.Established.{Established}\n\
              pub all-established : Established\nall-established = record { sums = sums-meet }",
+        ),
+        ("crates/asked/proofs/Lib.antt", "pub mod Asked"),
+        (
+            ASKED.file,
+            "use Rattle.established.specs.Established.{Established}\n\
+             use Rattle.established.proofs.Established.{all-established}\n\
+             pub asked : Established\nasked = all-established\n\npub sums : A\nsums = asked.sums",
         ),
     ];
 
@@ -160,18 +204,21 @@ mod tests {
 
     /// Holds the errors of the files, with a change in one of them, to those expected.
     fn expect(file: &str, from: &str, to: &str, expected: &[String]) {
+        expect_of_all(&[(file, from, to)], expected);
+    }
+
+    /// Holds the errors of the files, with changes in some of them, to those expected.
+    fn expect_of_all(changes: &[(&str, &str, &str)], expected: &[String]) {
         let changed = FILES.map(|(path, text)| {
-            let is_changed = path == file;
-            assert!(!is_changed || text.contains(from), "{from} in {file}");
-            let text = if is_changed {
+            let change = changes.iter().find(|(file, ..)| *file == path);
+            let text = change.map_or(text.to_string(), |(file, from, to)| {
+                assert!(text.contains(from), "{from} in {file}");
                 text.replace(from, to)
-            } else {
-                text.to_string()
-            };
+            });
             (path.to_string(), text)
         });
         let errors = errors(&Page::new(TEXT), &Repository::new(changed));
-        assert_eq!(errors, expected, "of {to} for {from} in {file}");
+        assert_eq!(errors, expected, "of {changes:?}");
     }
 
     #[test]
@@ -205,6 +252,21 @@ mod tests {
             "= step",
             &[format!("{file}:2: returns {DEAD}")],
         );
+        let file = "crates/a/proofs/m/g/Answers.antt";
+        expect(file, "= kept", "=", &[format!("{file}:6: kept {DEAD}")]);
+        let file = "crates/a/proofs/m/g/Invariants.antt";
+        expect(file, "= most", "=", &[format!("{file}:5: most {DEAD}")]);
+    }
+
+    #[test]
+    fn a_law_that_no_attribute_gives_to_the_tactics_any_more_is_dead() {
+        let dead = format!("crates/a/proofs/Steps.antt:3: turn {DEAD}");
+        expect(
+            "crates/a/src/lib.rt",
+            "using(crate::proofs::Steps::turn)",
+            "",
+            &[dead],
+        );
     }
 
     #[test]
@@ -231,6 +293,13 @@ mod tests {
             format!("{file}:3: spare {DEAD}"),
         ];
         expect("crates/a/src/lib.rt", "spare }", "A }", &errors);
+        // also where the crate that asks names it
+        let asked = "use Rattle.a.specs.Sums.{spare}\npub asked : Established × spare";
+        let files = [
+            ("crates/a/src/lib.rt", "spare }", "A }"),
+            (ASKED.file, "pub asked : Established", asked),
+        ];
+        expect_of_all(&files, &errors);
     }
 
     #[test]
@@ -262,6 +331,21 @@ mod tests {
         let repository = repository(&files.collect::<Vec<_>>());
         let error = format!("{} declares no Established", RECORD.file);
         assert_eq!(not_established(&Graph::new(&repository)), [error]);
+    }
+
+    #[test]
+    fn a_value_that_is_not_asked_for_is_found() {
+        let error = format!(
+            "{}: asked isn't all-established of type Established",
+            ASKED.file
+        );
+        expect(
+            ASKED.file,
+            "asked = all-established",
+            "asked = refl",
+            &[error.clone()],
+        );
+        expect(ASKED.file, "asked : Established", "asked : A", &[error]);
     }
 
     #[test]

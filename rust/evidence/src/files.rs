@@ -15,7 +15,8 @@ pub fn text_of(file: &str) -> Option<String> {
     Some(String::from_utf8_lossy(&bytes).into_owned())
 }
 
-/// The crates' files of antt and Rattle: their paths from the root, and their texts.
+/// The crates' files of antt and Rattle: their paths from the root, and their texts. What the
+/// toolchain made in a crate's folder `out` is left out.
 pub fn crate_texts() -> io::Result<Vec<(String, String)>> {
     let root = root();
     let files = files_below(&root.join("crates"))?;
@@ -23,7 +24,7 @@ pub fn crate_texts() -> io::Result<Vec<(String, String)>> {
         .iter()
         .filter_map(|file| file.strip_prefix(&root).ok());
     let texts = paths
-        .filter(|path| is_source(path))
+        .filter(|path| is_source(path) && !is_made(path))
         .map(|path| Ok((path.display().to_string(), text(&root, path)?)));
     texts.collect()
 }
@@ -32,6 +33,11 @@ pub fn crate_texts() -> io::Result<Vec<(String, String)>> {
 fn is_source(path: &Path) -> bool {
     let extension = path.extension();
     extension.is_some_and(|extension| extension == "antt" || extension == "rt")
+}
+
+/// Whether a file stands in the folder `out` of a crate.
+fn is_made(path: &Path) -> bool {
+    path.iter().nth(2).is_some_and(|folder| folder == "out")
 }
 
 /// The text of a file below a folder.
@@ -52,4 +58,16 @@ fn files_below(folder: &Path) -> io::Result<Vec<PathBuf>> {
         }
     }
     Ok(files)
+}
+
+#[cfg(test)]
+mod tests {
+    use super::*;
+
+    #[test]
+    fn what_the_toolchain_made_is_told_from_what_was_written() {
+        let made = |path: &str| is_made(Path::new(path));
+        assert!(made("crates/a/out/rlib/a.rlib/lang/antt/specs.antt"));
+        assert!(!made("crates/a/specs/out.antt") && !made("crates/a/src/out/lib.rt"));
+    }
 }

@@ -80,10 +80,10 @@ mod tests {
     fn items_come_under_their_names_or_others() {
         expect("A.B.{a}", &[item("A.B", "a", "a")]);
         expect(
-            "A.{a, _∷_ as _before_,\n  b,\n}",
+            "A.{a, ◌∷◌ as ◌before◌,\n  b,\n}",
             &[
                 item("A", "a", "a"),
-                item("A", "_∷_", "_before_"),
+                item("A", "◌∷◌", "◌before◌"),
                 item("A", "b", "b"),
             ],
         );

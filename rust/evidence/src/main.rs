@@ -2,8 +2,9 @@
 //! text alone, without the prover: each name on the page is in the repository; each statement that
 //! the page names is reached from the record of what is established or from a function's contract;
 //! each file that the record reaches is on the page; and each definition is reached from what is
-//! established or from a function. It prints an error for each that isn't, and fails where there is
-//! one.
+//! established or from a function. The crate that asks for what is established, from outside, has to
+//! ask for all of it; what it asks for isn't reached by that. It prints an error for each that isn't
+//! so, and fails where there is one.
 
 mod checks;
 mod contracts;
@@ -41,7 +42,7 @@ fn main() -> ExitCode {
         "{} names on {PAGE} looked up; {} definitions, each reached from what is established or \
          from a function",
         grouped(page.count()),
-        grouped(repository.definitions().count())
+        grouped(repository.product_definitions().count())
     );
     ExitCode::SUCCESS
 }

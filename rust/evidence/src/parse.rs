@@ -11,7 +11,7 @@ use crate::tokens::{Token, Tokens};
 use std::iter;
 
 /// What may stand before a declaration, `use` or `mod`.
-const MODIFIERS: [&str; 4] = ["unfoldable", "abbrev", "axiom", "pub"];
+const MODIFIERS: [&str; 5] = ["pattern", "unfoldable", "abbrev", "axiom", "pub"];
 
 /// The words that begin a declaration whose name comes next.
 const KINDS: [&str; 3] = ["record", "data", "ruleset"];
@@ -178,12 +178,13 @@ mod tests {
     fn each_kind_of_declaration_is_found() {
         expect("law : A", &[("law", "A")]);
         expect("abbrev pub size : A", &[("size", "A")]);
-        expect("unfoldable pub at′-1 :\n    A", &[("at′-1", "A")]);
+        expect("unfoldable pub at'-1 :\n    A", &[("at'-1", "A")]);
+        expect("pattern abbrev two : A", &[("two", "A")]);
         expect("levels {ℓ} : A ℓ", &[("levels", "levels ℓ A ℓ")]);
         expect("pub record Row : A where", &[("Row", "record A where")]);
         expect("pub data Call : A where", &[("Call", "data A where")]);
         expect("pub ruleset r = (a, b)", &[("r", "ruleset r a b")]);
-        expect("infix 4 _on_\n_on_ : A", &[("_on_", "A")]);
+        expect("infix 4 ◌on◌\n◌on◌ : A", &[("◌on◌", "A")]);
         expect("mutual\n  e : A\n  o : A", &[("e", "A"), ("o", "A")]);
     }
 
@@ -202,7 +203,7 @@ mod tests {
             "law : P x\nunfolding size\nlaw a = f (\n  b\n) c\n\nother : Q",
             &[("law", "P x unfolding size law a f b c"), ("other", "Q")],
         );
-        expect("_on_ : A\nc on s = d", &[("_on_", "A c on s d")]);
+        expect("◌on◌ : A\nc on s = d", &[("◌on◌", "A c on s d")]);
     }
 
     #[test]
@@ -244,10 +245,14 @@ mod tests {
     }
 
     #[test]
-    fn labels_and_projections_are_not_used() {
+    fn labels_and_projections_behind_parentheses_are_not_used() {
         expect(
-            "row : Row\nrow = record { amount = rate; low = f {A = ℕ} (x .low) }",
-            &[("row", "Row row record rate f ℕ x")],
+            "row : Row\nrow = record { amount = rate; low = f {A = ℕ} (g x).low }",
+            &[("row", "Row row record rate f ℕ g x")],
+        );
+        expect(
+            "row : Row\nrow = record {\n  amount = s.rate;\n}",
+            &[("row", "Row row record s.rate")],
         );
     }
 
@@ -266,9 +271,9 @@ mod tests {
 
     #[test]
     fn constructors_are_of_their_data_type() {
-        let source = Source::new("data Call : A where\n  _with_ : A → Call\n  none no : Call");
+        let source = Source::new("data Call : A where\n  ◌with◌ : A → Call\n  none no : Call");
         let constructors = &source.definitions[0].constructors;
-        assert_eq!(constructors, &["_with_", "none", "no"]);
+        assert_eq!(constructors, &["◌with◌", "none", "no"]);
     }
 
     #[test]

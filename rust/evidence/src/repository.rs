@@ -6,8 +6,13 @@ use crate::imports::Import;
 use crate::parse::{Definition, Source};
 use std::collections::BTreeMap;
 
-/// The file that holds the proof of a function, in the function's folder.
-const PROOF_FILE: &str = "Proof.antt";
+/// The files that hold the proof of a function, in the function's folder: what is chosen for it and
+/// the answers to its goals, or all of it.
+const PROOF_FILES: [&str; 3] = ["Invariants.antt", "Answers.antt", "Proof.antt"];
+
+/// The crate that asks, from outside the product, for what is established and promised. What it asks
+/// for isn't reached by that.
+const ASKED: &str = "crates/asked/";
 
 /// The files of the crates, by their paths from the root of the repository.
 #[derive(Default)]
@@ -39,8 +44,14 @@ impl Repository {
         repository
     }
 
+    /// All definitions but those of the crate that asks.
+    pub fn product_definitions(&self) -> impl Iterator<Item = (Node<'_>, &Definition)> {
+        let definitions = self.definitions();
+        definitions.filter(|(node, _)| !is_asked(node.file))
+    }
+
     /// All definitions.
-    pub fn definitions(&self) -> impl Iterator<Item = (Node<'_>, &Definition)> {
+    fn definitions(&self) -> impl Iterator<Item = (Node<'_>, &Definition)> {
         self.sources.iter().flat_map(|(file, source)| {
             source.definitions.iter().map(move |definition| {
                 let name = &definition.name;
@@ -57,13 +68,13 @@ impl Repository {
         files.flat_map(|(file, imports)| imports.iter().map(move |import| (file.as_str(), import)))
     }
 
-    /// The file of a module. `Rattle·CRATE·specs.specs.A.B`, as the crate itself writes it, and
-    /// `Rattle·CRATE.specs.A.B`, as other crates do, are both crates/CRATE/specs/A/B.antt; so of
-    /// proofs. A module that the toolchain brings or generates has no file.
+    /// The file of a module: `Rattle.CRATE.specs.A.B` is crates/CRATE/specs/A/B.antt; so of proofs. A
+    /// module that the toolchain brings or generates has no file.
     pub fn file_of(&self, module: &str) -> Option<&str> {
-        let (library, path) = module.split_once('.')?;
-        let name = library.strip_prefix("Rattle·")?.split('·').next()?;
-        let file = format!("crates/{name}/{}.antt", path.replace('.', "/"));
+        let file = format!(
+            "crates/{}.antt",
+            module.strip_prefix("Rattle.")?.replace('.', "/")
+        );
         self.sources
             .get_key_value(&file)
             .map(|(file, _)| file.as_str())
@@ -97,9 +108,9 @@ impl Repository {
     /// What the proofs of functions give to the prover: the public definitions of their files. What
     /// else stands there is reached from these, or dead like any other definition.
     pub fn function_proofs(&self) -> impl Iterator<Item = Node<'_>> {
-        let given = self.definitions().filter(|(node, definition)| {
-            definition.public && node.file.rsplit('/').next() == Some(PROOF_FILE)
-        });
+        let given = self
+            .product_definitions()
+            .filter(|(node, definition)| definition.public && is_proof_file(node.file));
         given.map(|(node, _)| node)
     }
 
@@ -118,14 +129,27 @@ impl Repository {
 
     /// Whether a file stands in or below the folder of a function.
     fn is_of_function(&self, file: &str) -> bool {
-        let mut folders = file.match_indices('/').map(|(end, _)| &file[..end]);
-        folders.any(|folder| self.sources.contains_key(&format!("{folder}/{PROOF_FILE}")))
+        let folders = file.match_indices('/').map(|(end, _)| &file[..end]);
+        let mut files =
+            folders.flat_map(|folder| PROOF_FILES.map(|name| format!("{folder}/{name}")));
+        files.any(|file| self.sources.contains_key(&file))
     }
 
     fn is_declared(&self, file: &str, parent: &str) -> bool {
         let modules = self.sources.get(parent).map(|source| &source.modules);
         modules.is_some_and(|modules| modules.iter().any(|module| module == module_name(file)))
     }
+}
+
+/// Whether a file is of the crate that asks.
+pub fn is_asked(file: &str) -> bool {
+    file.starts_with(ASKED)
+}
+
+/// Whether a file holds the proof of a function.
+fn is_proof_file(file: &str) -> bool {
+    let name = file.rsplit('/').next();
+    name.is_some_and(|name| PROOF_FILES.contains(&name))
 }
 
 /// The file whose `mod` line declares a file: Lib.antt of crates/CRATE/specs/A.antt, and
@@ -157,25 +181,25 @@ mod tests {
     use super::*;
 
     #[test]
-    fn a_module_has_the_same_file_inside_its_crate_and_outside() {
+    fn a_module_of_a_crate_has_its_file() {
         let repository = repository(&[
             ("crates/a/specs/B/C.antt", ""),
             ("crates/a/proofs/D.antt", ""),
         ]);
         let file = Some("crates/a/specs/B/C.antt");
-        assert_eq!(repository.file_of("Rattle·a·specs.specs.B.C"), file);
-        assert_eq!(repository.file_of("Rattle·a.specs.B.C"), file);
+        assert_eq!(repository.file_of("Rattle.a.specs.B.C"), file);
         let file = Some("crates/a/proofs/D.antt");
-        assert_eq!(repository.file_of("Rattle·a.proofs.D"), file);
-        assert_eq!(repository.file_of("Rattle·a.specs.declared.B"), None);
+        assert_eq!(repository.file_of("Rattle.a.proofs.D"), file);
+        assert_eq!(repository.file_of("Rattle.a.specs.declared.B"), None);
+        assert_eq!(repository.file_of("Rattle.std.specs.Prelude"), None);
         assert_eq!(repository.file_of("mathlib.Core.List"), None);
     }
 
     #[test]
     fn an_item_is_declared_or_passed_on() {
-        let call = "data Call : Type 0 where\n  _with_ : Call";
-        let imports = "pub use Rattle·a·specs.specs.A.{_with_ as _and_}\n\
-                       use Rattle·a·specs.specs.A.{Call}";
+        let call = "data Call : Type 0 where\n  ◌with◌ : Call";
+        let imports = "pub use Rattle.a.specs.A.{◌with◌ as ◌and◌}\n\
+                       use Rattle.a.specs.A.{Call}";
         let repository = repository(&[
             ("crates/a/specs/A.antt", call),
             ("crates/a/specs/B.antt", imports),
@@ -184,9 +208,9 @@ mod tests {
             file: "crates/a/specs/A.antt",
             name: "Call",
         });
-        assert_eq!(repository.definition_of("Rattle·a.specs.A", "_with_"), call);
-        assert_eq!(repository.definition_of("Rattle·a.specs.B", "_and_"), call);
-        assert_eq!(repository.definition_of("Rattle·a.specs.B", "Call"), None);
+        assert_eq!(repository.definition_of("Rattle.a.specs.A", "◌with◌"), call);
+        assert_eq!(repository.definition_of("Rattle.a.specs.B", "◌and◌"), call);
+        assert_eq!(repository.definition_of("Rattle.a.specs.B", "Call"), None);
     }
 
     #[test]
@@ -200,6 +224,9 @@ mod tests {
             ("crates/a/proofs/C.antt", ""),
             ("crates/a/proofs/f/Proof.antt", ""),
             ("crates/a/proofs/f/Proof/Laws.antt", ""),
+            ("crates/a/proofs/m/g/Answers.antt", ""),
+            ("crates/a/proofs/m/h/Invariants.antt", ""),
+            ("crates/a/proofs/m/h/Answers/Laws.antt", ""),
             ("crates/a/specs/D.antt", ""),
         ]);
         let missing = |file, parent: &str| (file, parent.to_string());

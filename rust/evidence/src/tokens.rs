@@ -3,8 +3,9 @@
 /// The characters that no name has, besides blanks.
 const MARKS: &str = "(){}.;,@\"«»";
 
-/// A token and where it stands: a name, alone or behind its module (`length`, `Sheet.step`), a
-/// projection (`.rows`), a mark or a quoted text. Lines and columns count from 0.
+/// A token and where it stands: a name, alone, behind its module or with its projections (`length`,
+/// `Sheet.step`, `s.rows.0`), a projection of what stands in parentheses (`.rows`), a mark or a
+/// quoted text. Lines and columns count from 0.
 #[derive(Clone, Copy)]
 pub struct Token<'a> {
     pub text: &'a str,
@@ -132,21 +133,18 @@ mod tests {
     }
 
     #[test]
-    fn a_projection_is_no_qualified_name() {
+    fn a_projection_stands_with_its_name_and_alone_behind_parentheses() {
         assert_eq!(
-            texts("f (s .rows) (Sheet.step c .before .0)"),
+            texts("f s.rows (Sheet.step c.before).before.0"),
             [
                 "f",
-                "(",
-                "s",
-                ".rows",
-                ")",
+                "s.rows",
                 "(",
                 "Sheet.step",
-                "c",
+                "c.before",
+                ")",
                 ".before",
-                ".0",
-                ")"
+                ".0"
             ]
         );
     }
@@ -160,8 +158,8 @@ mod tests {
     #[test]
     fn comments_are_left_out_and_quoted_texts_are_whole() {
         assert_eq!(
-            texts("a -- b\n{- c\nd -} \"-- \\\" e\" at′-x"),
-            ["a", "\"-- \\\" e\"", "at′-x"]
+            texts("a -- b\n{- c\nd -} \"-- \\\" e\" at'-x"),
+            ["a", "\"-- \\\" e\"", "at'-x"]
         );
         assert_eq!(texts("b'\"' no end"), ["b'", "\"' no end"]);
     }
@@ -176,10 +174,10 @@ mod tests {
 
     #[test]
     fn only_names_are_names() {
-        let names: Vec<&str> = Tokens::new("_on_gives_ : (x.y) = .z \"t\" «in» ;")
+        let names: Vec<&str> = Tokens::new("◌on◌gives◌ : (x.y) = .z \"t\" «in» ;")
             .filter(Token::is_name)
             .map(|token| token.text)
             .collect();
-        assert_eq!(names, ["_on_gives_", "x.y", "in"]);
+        assert_eq!(names, ["◌on◌gives◌", "x.y", "in"]);
     }
 }
