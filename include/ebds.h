@@ -3,8 +3,8 @@
  *
  * The calls, their numbers, answers and refusals are those of document 01, "The discount ledger of
  * the Energy Bills Discount Scheme", with papers 1 to 5 of document 02, "Later changes to the
- * base". The library is target/staticlib/libebds_c.a, which the command `rt staticlib ebds_c`
- * proves and builds. It keeps nothing between calls and allocates nothing.
+ * base". The library is target/staticlib/libebds_c.a, which the script `./build-library` proves and
+ * builds. It keeps nothing between calls and allocates nothing.
  *
  * What every call gives back
  *   The returned number is 0 where the call is accepted, or else the number that turns it down, the

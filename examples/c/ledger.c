@@ -4,7 +4,7 @@
  * share follows, to which the certificate doesn't apply. At last a fixed contract is amended, and
  * billed on either side of its original end. It prints ledger.out. From the repository's root:
  *
- *   rt staticlib ebds_c && gcc -std=c11 -Wall -Wextra -O2 -I include examples/c/ledger.c \
+ *   ./build-library && gcc -std=c11 -Wall -Wextra -O2 -I include examples/c/ledger.c \
  *       target/staticlib/libebds_c.a -o target/ledger_example && target/ledger_example
  */
 #include <inttypes.h>

@@ -1,4 +1,4 @@
-//! Links the C library that `rt` builds.
+//! Links the C library that the script `build-library` builds.
 
 use std::path::Path;
 use std::process::exit;
@@ -9,7 +9,7 @@ fn main() {
     println!("cargo:rerun-if-changed={}", archive.display());
     if !archive.exists() {
         eprintln!(
-            "{} is missing: run `rt staticlib ebds_c` in the repository's root first",
+            "{} is missing: run `./build-library` in the repository's root first",
             archive.display()
         );
         exit(1);

@@ -5,6 +5,9 @@ use std::path::{Path, PathBuf};
 use std::process::{Command, Output, Stdio};
 use std::thread;
 
+/// Where `rt` puts the program, from the root of the repository.
+pub const PROGRAM: &str = "crates/ebds/out/ebds";
+
 /// The root of the repository.
 pub fn root() -> PathBuf {
     Path::new(env!("CARGO_MANIFEST_DIR")).join("../..")
@@ -12,10 +15,10 @@ pub fn root() -> PathBuf {
 
 /// The program, which must have been built.
 fn program() -> PathBuf {
-    let program = root().join("target/bin/ebds");
+    let program = root().join(PROGRAM);
     assert!(
         program.exists(),
-        "the program isn't built: run `rt check ebds` first"
+        "the program isn't built: run `./ebds </dev/null` first"
     );
     program
 }

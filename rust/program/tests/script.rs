@@ -1,6 +1,6 @@
 //! The script `./ebds`: its status and what it says of a read or a write that fails, of a program that crashes, and of a build.
 
-use program::{root, run, script};
+use program::{root, run, script, PROGRAM};
 use std::fs::{self, File};
 use std::os::unix::fs::{symlink, PermissionsExt};
 use std::path::{Path, PathBuf};
@@ -95,7 +95,9 @@ struct Elsewhere(PathBuf);
 impl Elsewhere {
     fn new(name: &str) -> Self {
         let folder = std::env::temp_dir().join(format!("ebds-{name}-{}", process::id()));
-        fs::create_dir_all(folder.join("target/bin")).expect("the folder is made");
+        let program = folder.join(PROGRAM);
+        let made = program.parent().expect("the program has a folder");
+        fs::create_dir_all(made).expect("the folder is made");
         symlink(root().join("ebds"), folder.join("ebds")).expect("the script is linked");
         Elsewhere(folder)
     }
@@ -129,7 +131,7 @@ impl Drop for Elsewhere {
 #[test]
 fn a_crash_keeps_its_status() {
     let elsewhere = Elsewhere::new("crash");
-    elsewhere.write("target/bin/ebds", "echo ok\nkill -SEGV $$\n");
+    elsewhere.write(PROGRAM, "echo ok\nkill -SEGV $$\n");
     expect_end(
         &elsewhere.end(b""),
         128 + 11,
@@ -143,14 +145,25 @@ fn a_build_shows_a_line_for_each_crate() {
     let elsewhere = Elsewhere::new("build");
     elsewhere.write(
         "rt",
-        "cat <<'END'
+        "cat >&2 <<'END'
+statements std: modules loaded=0 checked=0
+only=0 proved=0
+rt: chose --jobs 2 for basics
 fn basics::least: proved
-library std: modules loaded=0 checked=0
-rt: basics proved (3 s)
-rt: bill_calls proved (unchanged since it was last proved)
-rt: ok, 2 crates proved
+logic /logic/antt-project.json: libraries=16 files=2756 sum=dac8
+statements std: modules loaded=5 checked=0
+crate basics: modules loaded=0 checked=40
+logic=proved functions=1 sum=dac8 native=nat,char,string
+rt: chose --jobs 2 for bill_calls
+fn bill_calls::bill: proved
+library basics: modules loaded=24 checked=0
+crate bill_calls: modules loaded=0 checked=220
+axioms libc: none reached of the 128 declared
+logic=proved functions=7 sum=dac8 native=nat,char,string
+rt: running out/ebds; to give it other input, run that file yourself
 END
-ln -s /bin/cat target/bin/ebds
+ln -s /bin/cat out/ebds
+cat
 ",
     );
     let shown = format!("{BUILDS}ebds: basics proved\nebds: bill_calls proved\n");
@@ -169,22 +182,23 @@ fn a_build_that_fails_shows_why() {
     let elsewhere = Elsewhere::new("failure");
     elsewhere.write(
         "rt",
-        "cat <<'END'
-rt: basics proved (3 s)
+        "cat >&2 <<'END'
+crate basics: modules loaded=0 checked=40
+logic=proved functions=1 sum=dac8 native=nat,char,string
+rt: chose --jobs 2 for text
 fn text::find: not proved
 fn text::same: proved
-library std: modules loaded=0 checked=0
-logic=not-proved
-rt: text NOT PROVED (exit 1, 2 s)
-rt: session NOT PROVED: its dependency text is not proved
-rt: FAILED: text session
+library basics: modules loaded=24 checked=0
+crate text: modules loaded=0 checked=220
+logic=not-proved functions=2 sum=dac8 native=nat,char,string
+rt: the library text did not build, so nothing above it was checked
 END
 exit 1
 ",
     );
     let shown = format!(
-        "{BUILDS}ebds: basics proved\nfn text::find: not proved\nrt: text NOT PROVED (exit 1, 2 s)\nrt: FAILED: text session\n"
+        "{BUILDS}ebds: basics proved\nfn text::find: not proved\nrt: the library text did not build, so nothing above it was checked\n"
     );
     expect_end(&elsewhere.end(b"total\n"), 1, b"", &shown);
-    assert!(!elsewhere.exists("target/bin/ebds"));
+    assert!(!elsewhere.exists(PROGRAM));
 }
