@@ -26,11 +26,11 @@ module _ (s : List ℕ) (a : ℕ) (low : a < 2 ^ 50) where
 
   fits : Fit (whole row_record) (slot_out row_record (some x))
   unfolding slot_out record_in slot_numbers unpack fields
-  fits = let f = fields_fit s 0 (whole row_record) in omega arith
+  fits = let f = fields_fit s (whole row_record) 0 in omega arith
 
   fits-then : Fit (whole row_record) (slot_out row_record (some (with_amount x a)))
   unfolding slot_out record_in slot_numbers unpack fields
-  fits-then = let f = fields_fit s 0 (whole row_record) in omega arith
+  fits-then = let f = fields_fit s (whole row_record) 0 in omega arith
 
   pub amount-written : (t : List ℕ) → IsPacked row_record s → t ≡ set_field s (sum (take last (whole row_record))) (get_or (whole row_record) last 0) a → t ≡ record_bytes row_record (with_amount x a)
   unfolding slot_out size

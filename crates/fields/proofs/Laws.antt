@@ -217,10 +217,10 @@ module _ (b : List ℕ) (f n : ℕ) (inside : f + n ≤ length b) where
 -- ---- adjacent fields
 
 -- each of the fields is below 2 to the power of its width
-pub fields_fit : (b : List ℕ) (at : ℕ) (ws : List ℕ) → Fit ws (fields b at ws)
+pub fields_fit : (b : List ℕ) (ws : List ℕ) (at : ℕ) → Fit ws (fields b at ws)
 unfolding fields
-fields_fit b at [] = tt
-fields_fit b at (w ∷ ws) = (field_lt b at w, fields_fit b (at + w) ws)
+fields_fit b [] at = tt
+fields_fit b (w ∷ ws) at = (field_lt b at w, fields_fit b ws _)
 
 -- putting fields leaves as many bytes, and bytes they are
 pub length-set_fields : (b : List ℕ) (at : ℕ) (ws vs : List ℕ) → length (set_fields b at ws vs) ≡ length b

@@ -23,7 +23,7 @@ are-pack ws vs = are-bytes (size ws) (field_bits ws vs)
 
 pub fit-unpack : (ws b : List ℕ) → Fit ws (unpack ws b)
 unfolding unpack
-fit-unpack ws b = fields_fit b 0 ws
+fit-unpack ws b = fields_fit b ws 0
 
 -- packed and unpacked again
 pub unpack-pack : (ws vs : List ℕ) → WholeBytes ws → Fit ws vs → unpack ws (pack ws vs) ≡ vs
