@@ -1,10 +1,7 @@
--- Lengths of an array of zeros, by laws and at any size: nothing here computes the array. Assumes nothing.
-use mathlib.Core.Path.{◌≡◌, sym, subst}
-use Prim.Native.Nat.{ℕ, ◌≤◌}
-use lib.ListN.{length, replicate, length-replicate}
+-- The length of an array of zeros, by a law and at any size: nothing here computes the array. Assumes nothing.
+use Rattle.std.proofs.Common.{◌≡◌, ℕ, length, sym}
+use lib.ListN.{replicate}
+use Rattle.std.proofs.lemmas.List.{length-replicate}
 
 pub zeros-length : (n : ℕ) → n ≡ length {A = ℕ} (replicate n 0)
-zeros-length n = sym (length-replicate {A = ℕ} n 0)
-
-pub zeros-room : (n r : ℕ) → r ≤ n → r ≤ length {A = ℕ} (replicate n 0)
-zeros-room n r h = subst (λ (k : ℕ). r ≤ k) (zeros-length n) h
+zeros-length n = sym (length-replicate n 0)

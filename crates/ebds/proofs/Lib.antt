@@ -1,2 +1,3 @@
--- Laws of the program's arrays.
+-- Laws of the program's arrays, and of what it reads and prints.
 pub mod Arrays
+pub mod Runs

@@ -1,0 +1,2 @@
+-- What the program owes of its input and output.
+pub mod Run
