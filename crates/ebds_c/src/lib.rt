@@ -1,5 +1,6 @@
-// The calls for C: each takes the ledger, the book where document 01 has one, the call's numbers in the papers' order, and room for the
-// numbers of the answer; it returns the number of the refusal, 0 where the call is accepted. Nothing is required of the bytes.
+// The calls for C, which the static library `ebds_exports` exports: each takes the ledger, the book where document 01 has one, the call's
+// numbers in the papers' order, and room for the numbers of the answer; it returns the number of the refusal, 0 where the call is
+// accepted. Nothing is required of the bytes.
 
 #![tactic(auto)]
 
@@ -21,12 +22,7 @@ use model::{ANSWER_NUMBERS, Call, Request};
 const NO_BOOK: [u32; 0] = [];
 
 // start (territory).
-#[unsafe(no_mangle)]
-pub extern "C" fn ebds_start(
-    ledger: &mut [u8],
-    territory: u32,
-    answer: &mut [i64; ANSWER_NUMBERS],
-) -> u32
+pub fn ebds_start(ledger: &mut [u8], territory: u32, answer: &mut [i64; ANSWER_NUMBERS]) -> u32
     ensures given { Given (reply_of (start_answer ledger.old territory)) result answer.new }
     ensures ledger_after { ledger.new ≡ start_bytes ledger.old territory }
 {
@@ -34,8 +30,7 @@ pub extern "C" fn ebds_start(
 }
 
 // open (contract, fuel, kind, price-fix day, entry day).
-#[unsafe(no_mangle)]
-pub extern "C" fn ebds_open(
+pub fn ebds_open(
     ledger: &mut [u8],
     contract: u32,
     fuel: u32,
@@ -57,8 +52,7 @@ pub extern "C" fn ebds_open(
 }
 
 // bill (contract, first, last, kWh, S, WAP, ETII share, QHS share).
-#[unsafe(no_mangle)]
-pub extern "C" fn ebds_bill(
+pub fn ebds_bill(
     ledger: &mut [u8],
     book: &[u32],
     contract: u32,
@@ -87,8 +81,7 @@ pub extern "C" fn ebds_bill(
 }
 
 // rebill, same numbers.
-#[unsafe(no_mangle)]
-pub extern "C" fn ebds_rebill(
+pub fn ebds_rebill(
     ledger: &mut [u8],
     book: &[u32],
     contract: u32,
@@ -117,8 +110,7 @@ pub extern "C" fn ebds_rebill(
 }
 
 // cert (contract, class, effective day).
-#[unsafe(no_mangle)]
-pub extern "C" fn ebds_cert(
+pub fn ebds_cert(
     ledger: &mut [u8],
     contract: u32,
     class: u32,
@@ -140,8 +132,7 @@ pub extern "C" fn ebds_cert(
 }
 
 // cancel (contract, first).
-#[unsafe(no_mangle)]
-pub extern "C" fn ebds_cancel(
+pub fn ebds_cancel(
     ledger: &mut [u8],
     contract: u32,
     first: u32,
@@ -153,36 +144,28 @@ pub extern "C" fn ebds_cancel(
 }
 
 // claim.
-#[unsafe(no_mangle)]
-pub extern "C" fn ebds_claim(ledger: &mut [u8], answer: &mut [i64; ANSWER_NUMBERS]) -> u32
+pub fn ebds_claim(ledger: &mut [u8], answer: &mut [i64; ANSWER_NUMBERS]) -> u32
     ensures { Gives ledger.old (Call.Claim with []) result answer.new ledger.new }
 {
     make(ledger, &NO_BOOK, Call::Claim, answer)
 }
 
 // report (contract). It changes no byte.
-#[unsafe(no_mangle)]
-pub extern "C" fn ebds_report(
-    ledger: &[u8],
-    contract: u32,
-    answer: &mut [i64; ANSWER_NUMBERS],
-) -> u32
+pub fn ebds_report(ledger: &[u8], contract: u32, answer: &mut [i64; ANSWER_NUMBERS]) -> u32
     ensures { Gives ledger.now (Call.Report contract with []) result answer.new ledger.now }
 {
     give(reply_of(claim_calls::report(ledger, contract)), answer)
 }
 
 // total. It changes no byte.
-#[unsafe(no_mangle)]
-pub extern "C" fn ebds_total(ledger: &[u8], answer: &mut [i64; ANSWER_NUMBERS]) -> u32
+pub fn ebds_total(ledger: &[u8], answer: &mut [i64; ANSWER_NUMBERS]) -> u32
     ensures { Gives ledger.now (Call.Total with []) result answer.new ledger.now }
 {
     give(reply_of(claim_calls::total(ledger)), answer)
 }
 
 // amend (contract, original end day, price-fix day, entry day).
-#[unsafe(no_mangle)]
-pub extern "C" fn ebds_amend(
+pub fn ebds_amend(
     ledger: &mut [u8],
     contract: u32,
     original_end_day: u32,
@@ -202,21 +185,14 @@ pub extern "C" fn ebds_amend(
 }
 
 // day (year, month, day).
-#[unsafe(no_mangle)]
-pub extern "C" fn ebds_day(
-    year: u32,
-    month: u32,
-    day: u32,
-    answer: &mut [i64; ANSWER_NUMBERS],
-) -> u32
+pub fn ebds_day(year: u32, month: u32, day: u32, answer: &mut [i64; ANSWER_NUMBERS]) -> u32
     ensures { Given (reply_of_day (day_answer year month day)) result answer.new }
 {
     give(reply_of_day(calendar::day(year, month, day)), answer)
 }
 
 // date (day number).
-#[unsafe(no_mangle)]
-pub extern "C" fn ebds_date(day: u32, answer: &mut [i64; ANSWER_NUMBERS]) -> u32
+pub fn ebds_date(day: u32, answer: &mut [i64; ANSWER_NUMBERS]) -> u32
     ensures { Given (reply_of_date (date_answer day)) result answer.new }
 {
     give(reply_of_date(calendar::date(day)), answer)

@@ -1,0 +1,6 @@
+-- What `report` answers fits.
+use Rattle.ebds_c.proofs.Given.{answered-fits}
+use Rattle.ebds_c.proofs.ebds_report.Goals as goal
+
+pub reply_of-requires : goal.reply_of-requires
+reply_of-requires c = answered-fits _ _ _ _ c.report.ensures
