@@ -15,7 +15,6 @@ use Rattle.basics.specs.Lists.{total, count, All}
 use Rattle.basics.specs.Integers.{minℤ, at_least_zero, sumℤ}
 use Rattle.fields.specs.Field.{field_at, set_field, AreBytes}
 use Rattle.amounts.specs.declared.Bill.{Bill}
-use Rattle.rates.specs.declared.Amendment.{Amendment}
 use Rattle.rates.specs.declared.Amendment.TheVariants.{Unamended, Amended}
 use Rattle.rates.specs.declared.Contract.{Contract}
 use Rattle.rates.specs.declared.Terms.{Terms}

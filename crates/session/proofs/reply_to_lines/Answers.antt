@@ -1,11 +1,8 @@
 -- `reply_to_lines` prints all lines. The invariant: what is written, and what is to be printed of the rest, make the whole. The measure
 -- is what is left of the input.
 use mathlib.Core.Path.{◌∙◌}
-use Prim.Native.Nat.{◌-◌}
 use borrow.Author.Rules.{rules}
-use lib.ListN.{length}
-use Rattle.session.specs.Replies.{holding}
-use Rattle.session.proofs.Lines.{Reached, nothing-reached, all-reached, refusal-room, cut-reached, reply-room, line-reached}
+use Rattle.session.proofs.Lines.{nothing-reached, all-reached, refusal-room, cut-reached, reply-room, line-reached}
 use Rattle.session.proofs.reply_to_lines.Goals as goal
 
 pub loop-at-init : goal.loop-at-init

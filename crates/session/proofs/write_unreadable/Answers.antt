@@ -4,7 +4,6 @@ use native.Mathlib.Omega.{arith}
 use Rattle.text.specs.Lines.{line_text}
 use Rattle.text.proofs.LineRoom.{refused-room}
 use Rattle.text.proofs.Writes.{wrote-same}
-use borrow.Author.Rules.{rules}
 use Rattle.session.proofs.write_unreadable.Goals as goal
 
 pub write_line-requires : goal.write_line-requires

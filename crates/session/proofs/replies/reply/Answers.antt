@@ -1,7 +1,6 @@
 -- `reply` replies to each command: a call of a history by what it answers and leaves.
 use mathlib.Core.Path.{refl}
 use Rattle.session.specs.Replies.{response_to}
-use borrow.Author.Rules.{rules}
 use Rattle.calls.proofs.AnswersFit.{start_fits, same-fits}
 use Rattle.session.proofs.LedgerReplies.{line-said, ledger-left, book-left}
 use Rattle.session.proofs.replies.reply.Goals as goal

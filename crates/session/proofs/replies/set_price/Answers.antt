@@ -2,7 +2,6 @@
 use mathlib.Core.Path.{refl}
 use borrow.Author.Tests.{lt-ltb, le-ltb, le-leb, lt-leb}
 use Rattle.session.specs.Replies.{price_reply, book_with}
-use borrow.Author.Rules.{rules}
 use Rattle.session.proofs.replies.set_price.Goals as goal
 
 pub returns-then-index-ge-BOOK_LENGTH : goal.returns-then-index-ge-BOOK_LENGTH
