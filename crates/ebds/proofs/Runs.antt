@@ -3,7 +3,8 @@ use Rattle.std.proofs.Common.{◌≡◌, ℕ, ◌<◌, ◌⊎◌, inl, inr, List
 use Rattle.std.proofs.lemmas.Bool.{lt-ltb, cases_lt}
 use Rattle.std.specs.declared.option.Option.{Option}
 use Rattle.std.specs.Io.KnownBytes.{Consumes, IsAtEnd}
-use Rattle.session.specs.Transcript.{most_input, input_commands, transcript, printed, exchanges, initial}
+use Rattle.session.specs.Replies.{initial}
+use Rattle.session.specs.Transcript.{most_input, input_commands, transcript, printed, exchanges}
 
 -- inputs that are both longer than the program reads
 longer_inputs : (a b : List ℕ) → most_input < length a → most_input < length b → input_commands a ≡ input_commands b
