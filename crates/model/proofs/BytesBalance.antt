@@ -12,7 +12,7 @@ use Rattle.model.specs.Sheet as Sheet
 use Rattle.model.specs.History.{run, sheet_after, state_after, ledger_machine}
 use Rattle.model.specs.Balance.{Balanced, EveryHistoryBalances, sheet_of, StoredBalanceGoesOn}
 use Rattle.model.specs.Format.{Format, bytes_machine, FormatLaws}
-use Rattle.model.proofs.Refinement.{Refines, good-after, carry, carry-from}
+use Rattle.model.proofs.Refinement.{Refines, good-run, good-after, carry, carry-from}
 use Rattle.model.proofs.StaysWellFormed.{stays, fresh-formed}
 use Rattle.model.proofs.Balance.{every-history-balances}
 use Rattle.model.proofs.StoredBalance.{stored-balance-goes-on}
@@ -53,6 +53,10 @@ module _ (R : Rules) (ok : RulesLaws R) (f : Format) (w : FormatLaws R f) where
   -- number 2 meets no call of a history
   pub bytes-well-formed : (t : ℕ) → t ≤ 1 → (h : List CallWithBook) → f.is_well_formed (state_after (bytes_machine R f) t h) ≡ true
   bytes-well-formed = good-after (bytes_machine R f) (ledger_machine R) bytes-refine
+
+  -- and no later call of a stored ledger
+  pub stored-well-formed : (b : f.Bytes) → f.is_well_formed b ≡ true → (h : List CallWithBook) → f.is_well_formed (run (bytes_machine R f).step b h) ≡ true
+  stored-well-formed b s h = good-run (bytes_machine R f) (ledger_machine R) bytes-refine h b s
 
   pub bytes-balance : EveryHistoryBalances R (bytes_machine R f)
   bytes-balance t o h =

@@ -30,6 +30,8 @@ pub mod Run
 pub mod PriceOfEveryDay
 pub mod AcceptedCalls
 pub mod NumberFifteen
+pub mod NumberEight
+pub mod LargestBill
 pub mod QuarterExample
 pub mod StoredEarlier
 pub mod BookEntries

@@ -1,43 +1,36 @@
 -- Number 15 turns down a bill or rebill whose span touches two months, where no earlier test fits, and no other call. Assumes nothing.
-use mathlib.Core.Path.{◌≡◌, refl, sym, ◌∙◌}
-use mathlib.Core.Bool.{false, false≢true, or-false}
+use mathlib.Core.Path.{◌≡◌, refl}
+use mathlib.Core.Bool.{false, false≢true}
 use mathlib.Core.List.{List, [], ◌∷◌, ◌++◌}
-use mathlib.Core.Logic.{⊎_elim}
 use Prim.Native.Nat.{ℕ}
 use lib.ListN.{drop}
 use Rattle.basics.proofs.Tests.{not-no}
-use Rattle.model.specs.OpenContracts.{contract_at}
 use Rattle.model.specs.declared.Call.{Call}
 use Rattle.model.specs.declared.Request.{Request}
 use Rattle.model.specs.Calls.{CallWithBook, View, Test, ◌if◌, first_of, ◌with◌}
 use Rattle.model.specs.Rules.{refusal}
 use Rattle.model.specs.PresentRules.{bad_book, bad_span, bad_months, open_tests, present_rules, tests}
+use Rattle.model.specs.AcceptedCalls.{contract_named}
 use Rattle.model.specs.NumberFifteen.{TwoMonthsGiven, GivesTwoMonths, NumberFifteen}
-use Rattle.model.proofs.Refusals.{fits_any, fits-first, first-or-second, clear}
+use Rattle.model.proofs.Refusals.{fits_any, fits-first, clear, only-place}
 
 module _ (v : View) (q : Request) (book : List ℕ) where
-  -- the tests before number 15, and it with those after it, none of which has its number
+  -- the tests before number 15
   abbrev earlier : List Test
   earlier = (3 if bad_book book) ∷ open_tests v q.contract ++ ((7 if bad_span q.first q.last) ∷ [])
 
-  abbrev from-15 : List Test → List Test
-  from-15 later = (15 if bad_months (contract_at v.contracts q.contract).kind q.first q.last) ∷ later
-
-  given : (later : List Test) → first_of (earlier ++ from-15 later) ≡ 15 → fits_any later 15 ≡ false → TwoMonthsGiven v q book
+  given : (later : List Test) → fits_any later 15 ≡ false → first_of (earlier ++ ((15 if bad_months (contract_named v q).kind q.first q.last) ∷ later)) ≡ 15 → TwoMonthsGiven v q book
   unfolding open_tests
-  given later e none = ⊎_elim (λ f. absurd (false≢true (fits-first earlier 14 f))) found (first-or-second earlier (from-15 later) 14 e)
-    where
-      found : (first_of earlier ≡ 0) × (first_of (from-15 later) ≡ 15) → TwoMonthsGiven v q book
-      found f =
-          let p = clear earlier tt f.0 in
-          let m = fits-first (from-15 later) 14 f.1 in
-          record { right = record { prices = p 3; number = p 4; opened = not-no _ (p 5); days = p 7 }; months = sym (or-false _) ∙ (rw none at m) }
+  given later none e =
+      let found = only-place earlier 14 _ later refl none e in
+      let p = clear earlier tt found.0 in
+      record { right = record { prices = p 3; number = p 4; opened = not-no _ (p 5); days = p 7 }; months = found.1 }
 
 turned_down : (v : View) (c : CallWithBook) → refusal present_rules v c ≡ 15 → GivesTwoMonths v c
 unfolding refusal tests
 turned_down v (Call.Open c fuel kind fix entry with book) e = false≢true (fits-first (tests v (Call.Open c fuel kind fix entry with book)) 14 e)
-turned_down v (Call.Bill q with book) e = given v q book (drop 5 (tests v (Call.Bill q with book))) e refl
-turned_down v (Call.Rebill q with book) e = given v q book (drop 5 (tests v (Call.Rebill q with book))) e refl
+turned_down v (Call.Bill q with book) e = given v q book (drop 5 (tests v (Call.Bill q with book))) refl e
+turned_down v (Call.Rebill q with book) e = given v q book (drop 5 (tests v (Call.Rebill q with book))) refl e
 turned_down v (Call.Cert c class effective with book) e = false≢true (fits-first (tests v (Call.Cert c class effective with book)) 14 e)
 turned_down v (Call.Cancel c first with book) e = false≢true (fits-first (tests v (Call.Cancel c first with book)) 14 e)
 turned_down v (Call.Claim with book) e = false≢true (fits-first (tests v (Call.Claim with book)) 14 e)

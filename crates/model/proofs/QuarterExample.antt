@@ -8,13 +8,12 @@ use Rattle.model.specs.declared.Answer.{Answer}
 use Rattle.model.specs.declared.Answer.TheVariants.{Claimed}
 use Rattle.model.specs.Rules.{part_of_due}
 use Rattle.model.specs.PresentRules.{bill_ok, present_rules}
-use Rattle.model.specs.Ledger.{fresh}
 use Rattle.model.specs.History.{state_after, ledger_machine}
 use Rattle.model.specs.WellFormed.{before, WellFormed}
 use Rattle.model.specs.Balance.{BalancedIn, sheet_of}
 use Rattle.model.specs.QuarterExample.{openings, stored_quarters, earlier_answers, quarter_book, quarter_calls, quarter_answers, QuarterExample}
 use Rattle.model.proofs.PresentRules.{present-rules-laws}
-use Rattle.model.proofs.StaysWellFormed.{with_rows, stays-run, fresh-formed}
+use Rattle.model.proofs.StaysWellFormed.{with_rows, history-formed}
 use Rattle.model.proofs.Balance.{balanced}
 use Rattle.model.proofs.StoredBalance.{stored}
 use Rattle.model.proofs.Computed.{answers_computed}
@@ -23,7 +22,7 @@ use Rattle.model.proofs.Computed.{answers_computed}
 well_formed : WellFormed present_rules stored_quarters
 unfolding answers_computed stored_quarters state_after bill_ok part_of_due before
 well_formed =
-    with_rows present_rules present-rules-laws (stays-run present_rules present-rules-laws openings (fresh 1) (fresh-formed present_rules 1 (omega arith))) (omega arith)
+    with_rows present_rules present-rules-laws (history-formed present_rules present-rules-laws 1 (omega arith) openings) (omega arith)
     (record { number = omega arith; is_opened = refl; ranges = refl; part = refl }, (record { number = omega arith; is_opened = refl; ranges = refl; part = refl }, tt))
     ((omega arith, tt), (tt, tt))
 

@@ -19,7 +19,7 @@ pub record Refines (m n : Machine) : Type 1 where
   pub holds : (b : m.State) → good b → m.facts b ≡ n.facts (read b)
 
 module _ (m n : Machine) (f : Refines m n) where
-  good-run : (h : List CallWithBook) (b : m.State) → f.good b → f.good (run m.step b h)
+  pub good-run : (h : List CallWithBook) (b : m.State) → f.good b → f.good (run m.step b h)
   good-run [] b g = g
   good-run (c ∷ h) b g = good-run h (m.step b c) (f.keeps b c g)
 

@@ -1,13 +1,13 @@
 -- What an accepted call, and one that is turned down, says of its tests, looked up by the paper's number. Assumes nothing.
-use mathlib.Core.Path.{◌≡◌, refl}
-use mathlib.Core.Bool.{Bool, true, false, cond, ◌&&◌, ◌||◌}
+use mathlib.Core.Path.{◌≡◌, refl, sym, ◌∙◌}
+use mathlib.Core.Bool.{Bool, true, false, cond, ◌&&◌, ◌||◌, false≢true}
 use mathlib.Core.List.{List, [], ◌∷◌, ◌++◌}
-use mathlib.Core.Logic.{◌⊎◌, inl, inr}
+use mathlib.Core.Logic.{◌⊎◌, inl, inr, ⊎_elim}
 use Prim.Native.Nat.{ℕ, suc, ◌≤◌}
 use native.Mathlib.Omega.{arith}
 use lib.Dec.{T, leb, eqb}
 use Rattle.basics.proofs.Tests.{T-yes, yes-T, and_left, and_right, le_yes, eq_no}
-use Rattle.model.specs.Calls.{Test, first_of}
+use Rattle.model.specs.Calls.{Test, ◌if◌, first_of}
 
 -- whether the test of that number fits
 abbrev pub fits_at : List Test → ℕ → Bool
@@ -54,6 +54,16 @@ first-or-second (x ∷ xs) ys n e = go x.fits (first-or-second xs ys n) e
         → (cond f x.number (first_of xs) ≡ suc n) ⊎ ((cond f x.number (first_of xs) ≡ 0) × (first_of ys ≡ suc n))
     go true rest h = inl h
     go false rest h = rest h
+
+-- a number that stands in one place turns the call down: no test before it fits, and its own does
+pub only-place : (earlier : List Test) (n : ℕ) (b : Bool) (later : List Test) → fits_any earlier (suc n) ≡ false → fits_any later (suc n) ≡ false
+    → first_of (earlier ++ ((suc n if b) ∷ later)) ≡ suc n → (first_of earlier ≡ 0) × (b ≡ true)
+only-place earlier n b later before after e =
+    ⊎_elim (λ f. absurd (false≢true (sym before ∙ fits-first earlier n f))) (λ f. (f.0, here b f.1)) (first-or-second earlier ((suc n if b) ∷ later) n e)
+  where
+    here : (b : Bool) → first_of ((suc n if b) ∷ later) ≡ suc n → b ≡ true
+    here true h = refl
+    here false h = absurd (false≢true (sym after ∙ fits-first later n h))
 
 pub refused-first : (xs ys : List Test) (n : ℕ) → n ≡ first_of xs → (n ≡ 0 → ⊥) → n ≡ first_of (xs ++ ys)
 refused-first [] ys n e some = absurd (some e)

@@ -4,7 +4,7 @@ use mathlib.Core.Bool.{not, cond}
 use mathlib.Core.List.{List, [], ◌∷◌, ◌++◌}
 use Prim.Native.Nat.{ℕ, ◌*◌, ◌/◌}
 use lib.Dec.{eqb}
-use lib.IntN.{ℤ, pos, sub_ℕ, +ℤ_idl}
+use lib.IntN.{ℤ, pos, sub_ℕ, ◌+ℤ◌, +ℤ_idl}
 use Rattle.limits.specs.Limits.{ticks_per_penny}
 use Rattle.basics.specs.Lists.{count}
 use Rattle.basics.specs.Integers.{sumℤ}
@@ -20,11 +20,12 @@ use Rattle.model.specs.declared.Request.{Request}
 use Rattle.model.specs.Calls.{CallWithBook, named, requested_bill, claim_pence, ◌with◌}
 use Rattle.model.specs.Rules.{Rules, refusal, unless_refused, part_of_due}
 use Rattle.model.specs.Ledger.{Ledger, fresh, amount_of, priced, of_contract, rerated, accept as accept_ledger, answer, due as due_ledger}
-use Rattle.model.specs.Sheet.{Sheet, blank, view as view_sheet, due as due_sheet, accept as accept_sheet}
+use Rattle.model.specs.Sheet.{Sheet, blank, view as view_sheet, step as step_sheet, due as due_sheet, accept as accept_sheet}
 use Rattle.model.specs.History.{run, replies, Machine, sheet_after, state_after, answers_to, ledger_machine}
-use Rattle.model.specs.Balance.{EveryHistoryBalances}
+use Rattle.model.specs.Balance.{EveryHistoryBalances, sheet_of}
+use Rattle.model.specs.WellFormed.{WellFormed}
 use Rattle.model.specs.Format.{Format, bytes_machine, FormatLaws}
-use Rattle.model.specs.SheetAnswers.{named_part, accepted_answer, sheet_answer, EveryAnswerFromTheSheet, EveryAcceptedClaimLeavesRest}
+use Rattle.model.specs.SheetAnswers.{named_part, accepted_answer, sheet_answer, EveryAnswerFromTheSheet, StoredAnswersFromTheSheet, EveryAcceptedClaimLeavesRest}
 use Rattle.model.proofs.RulesLaws.{RulesLaws}
 use Rattle.model.proofs.Outcomes.{either-outcome}
 use Rattle.model.proofs.RowSums.{amount-at}
@@ -32,7 +33,8 @@ use Rattle.basics.proofs.Integers.{sub-pos}
 use Rattle.model.proofs.Relation.{Related, agree, dues, once-row}
 use Rattle.model.proofs.KeepsRelation.{rerated-row, keep-act}
 use Rattle.model.proofs.Balance.{start, related, pence-run}
-use Rattle.model.proofs.Refinement.{carry}
+use Rattle.model.proofs.StoredBalance.{stored}
+use Rattle.model.proofs.Refinement.{carry, carry-from}
 use Rattle.model.proofs.BytesBalance.{bytes-refine}
 
 module _ (R : Rules) (l : Ledger) (s : Sheet) (r : Related R l s) where
@@ -100,6 +102,18 @@ module _ (R : Rules) (ok : RulesLaws R) where
   bytes-answer-from-the-sheet f w t o h c =
       carry (bytes_machine R f) (ledger_machine R) (bytes-refine R ok f w) t o h (λ answers next facts. next ≡ sheet_answer R (sheet_after R t h) (sumℤ claim_pence answers) c) c
       (every-answer-from-the-sheet t o h c)
+
+  stored-answers-from-the-sheet : StoredAnswersFromTheSheet R (ledger_machine R) (WellFormed R)
+  stored-answers-from-the-sheet l w h c =
+      let r = stored R ok l w in
+      answered _ _ c (related R ok h l (sheet_of l) r) ∙ ap (λ (z : ℤ). sheet_answer R (run (step_sheet R) (sheet_of l) h) z c) (pence-run R ok h l (sheet_of l) r)
+
+  pub bytes-answer-from-the-stored-sheet : (f : Format) (w : FormatLaws R f) → StoredAnswersFromTheSheet R (bytes_machine R f) (bytes-refine R ok f w).good
+  bytes-answer-from-the-stored-sheet f w b s h c =
+      let l = f.unpack b in
+      carry-from (bytes_machine R f) (ledger_machine R) (bytes-refine R ok f w)
+      (λ answers next facts. next ≡ sheet_answer R (run (step_sheet R) (sheet_of l) h) (pos l.pence +ℤ sumℤ claim_pence answers) c) c h b s
+      (stored-answers-from-the-sheet l (w.unpacked b s) h c)
 
 -- ---- a claim as the last call
 

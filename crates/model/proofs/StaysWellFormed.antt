@@ -23,7 +23,7 @@ use Rattle.model.specs.Calls.{CallWithBook, View, named, sharing, ends_after, re
 use Rattle.model.specs.Rules.{Rules, refusal, part_of_due}
 use Rattle.model.specs.WellFormed.{RowOk, before, Apart, WellFormed}
 use Rattle.model.specs.Ledger.{Ledger, insert, remove, replace, sorts_after, ledger_with_rows, priced, rerated, fresh, step, view as view_ledger, accept as accept_ledger}
-use Rattle.model.specs.History.{run}
+use Rattle.model.specs.History.{run, state_after, ledger_machine}
 use Rattle.model.proofs.Outcomes.{either-outcome}
 use Rattle.model.proofs.RowSums.{total-insert}
 use Rattle.model.proofs.RulesLaws.{Taken, Opened, Certified, Amended, RulesLaws}
@@ -119,7 +119,7 @@ module _ (R : Rules) (ok : RulesLaws R) where
       a : Amended R (view_ledger l) c end fix entry
       a = ok.amends (view_ledger l) c end fix entry book e
 
-  rerate-bill : (c : ℕ) (k : Contract) (x : Row) → (rerated R c k x).bill ≡ x.bill
+  pub rerate-bill : (c : ℕ) (k : Contract) (x : Row) → (rerated R c k x).bill ≡ x.bill
   unfolding rerated priced
   rerate-bill c k x = either (eqb x.bill.contract c) (λ e. rw e) (λ e. rw e)
 
@@ -239,7 +239,7 @@ module _ (R : Rules) (ok : RulesLaws R) where
   unfolding step
   stays l c w = either-outcome R l c (λ o. WellFormed R o.next) (stays-act l c w) (λ n e. w)
 
-  pub stays-run : (h : List CallWithBook) (l : Ledger) → WellFormed R l → WellFormed R (run (step R) l h)
+  stays-run : (h : List CallWithBook) (l : Ledger) → WellFormed R l → WellFormed R (run (step R) l h)
   stays-run [] l w = w
   stays-run (c ∷ h) l w = stays-run h (step R l c) (stays l c w)
 
@@ -256,3 +256,8 @@ fresh-formed R t h = record {
   rows = tt;
   apart = tt;
 }
+
+-- so every history leaves a well-formed ledger
+pub history-formed : (R : Rules) → RulesLaws R → (t : ℕ) → t ≤ 1 → (h : List CallWithBook) → WellFormed R (state_after (ledger_machine R) t h)
+unfolding state_after
+history-formed R ok t o h = stays-run R ok h (fresh t) (fresh-formed R t o)

@@ -14,12 +14,12 @@ use Rattle.amounts.specs.EarlierAmount.{earlier_amount}
 use Rattle.model.specs.declared.Row.{Row}
 use Rattle.model.specs.Rules.{part_of_due}
 use Rattle.model.specs.PresentRules.{bill_ok, present_rules}
-use Rattle.model.specs.Ledger.{Ledger, fresh, ledger_with_rows}
+use Rattle.model.specs.Ledger.{Ledger, ledger_with_rows}
 use Rattle.model.specs.History.{state_after, ledger_machine}
 use Rattle.model.specs.WellFormed.{RowOk, Apart, WellFormed}
 use Rattle.model.specs.StoredEarlier.{rules_with, RatedByDay, certified_inside, stored_with, StoredEarlier}
 use Rattle.model.proofs.PresentRules.{present-rules-laws}
-use Rattle.model.proofs.StaysWellFormed.{stays-run, fresh-formed}
+use Rattle.model.proofs.StaysWellFormed.{history-formed}
 use Rattle.model.proofs.Computed.{answers_computed}
 
 pub by_day : (l : Ledger) → WellFormed present_rules l → All (RatedByDay l.contracts) l.rows
@@ -51,8 +51,7 @@ still_formed l w same =
 -- ---- the example, by computation
 
 opened : WellFormed present_rules (state_after (ledger_machine present_rules) 0 certified_inside)
-unfolding state_after
-opened = stays-run present_rules present-rules-laws certified_inside (fresh 0) (fresh-formed present_rules 0 (omega arith))
+opened = history-formed present_rules present-rules-laws 0 (omega arith) certified_inside
 
 was : WellFormed (rules_with earlier_amount) (stored_with 17800000)
 unfolding answers_computed earlier_amount stored_with state_after bill_ok part_of_due

@@ -26,6 +26,12 @@ pub record RightContractAndDays (v : View) (q : Request) (book : List ℕ) : Typ
 abbrev pub contract_named : View → Request → Contract
 contract_named v q = contract_at v.contracts q.contract
 
+-- a request that 15 and 17 let pass too: its span under its contract
+pub record RightSpan (v : View) (q : Request) (book : List ℕ) : Type 0 where
+  pub right : RightContractAndDays v q book
+  pub months : bad_months (contract_named v q).kind q.first q.last ≡ false
+  pub inside : crosses_end (contract_named v q).amendment q.first q.last ≡ false
+
 -- a request that 15, 17, 8 and 14 let pass too, and whose price isn't 0 where it is needed (11)
 pub record RightNumbers (v : View) (q : Request) (book : List ℕ) : Type 0 where
   pub right : RightContractAndDays v q book

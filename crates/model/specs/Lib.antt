@@ -25,6 +25,8 @@ pub mod Amendments
 pub mod PriceOfEveryDay
 pub mod AcceptedCalls
 pub mod NumberFifteen
+pub mod NumberEight
+pub mod LargestBill
 pub mod QuarterExample
 pub mod StoredEarlier
 pub mod BookEntries

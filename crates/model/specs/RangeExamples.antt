@@ -1,6 +1,7 @@
 -- Document 01, "Well formed", with paper 1's shares, paper 2's rows across months and paper 5's amendments: held rows and open contracts on
 -- either side of the ranges. Assumes nothing.
-use Rattle.std.specs.Prelude.{◌≡◌, Bool, true, false, List, [], ◌∷◌, ◌++◌, map, ℕ, ◌≤◌}
+use Rattle.std.specs.Prelude.{◌≡◌, Bool, true, false, List, [], ◌∷◌, ◌++◌, map, ℕ, ◌+◌, ◌≤◌}
+use Rattle.limits.specs.Limits.{most_kwh_stored}
 use Rattle.rates.specs.declared.Fuel.TheVariants.{Electricity}
 use Rattle.rates.specs.declared.Kind.{Kind}
 use Rattle.rates.specs.declared.Kind.TheVariants.{Fixed, Variable, Flexible, Index}
@@ -46,6 +47,10 @@ held_bills =
     ∷ held_bill (Fixed 0 0) 486 851 100000001 0 0 999999 999999 false
     ∷ held_bill (Fixed 0 0) 486 851 100000000 0 0 1000000 999999 false
     ∷ held_bill (Fixed 0 0) 486 851 100000000 0 0 999999 1000000 false
+    ∷ held_bill (Fixed 0 0) 486 851 40000001 0 0 1 1 true
+    ∷ held_bill Flexible 486 851 100000000 100000000 0 0 0 true
+    ∷ held_bill Flexible 486 851 100000000 0 100000000 0 0 true
+    ∷ held_bill Flexible 486 851 100000001 60000000 40000000 0 0 false
     ∷ held_bill (Fixed 0 0) 486 851 0 0 0 0 0 false
     ∷ held_bill Flexible 486 851 0 0 0 0 0 true
     ∷ held_bill Flexible 486 851 100 100 0 0 0 true
@@ -127,8 +132,15 @@ contracts_out_of_range = amendments_out_of_range ++ map unamended (
 abbrev pub ending_on : (last : ℕ) → Bill → Bill
 ending_on last b = record { contract = b.contract; first = b.first; last = last; kwh = b.kwh; etii = b.etii; qhs = b.qhs; reference = b.reference; supply = b.supply }
 
+-- the bill with other kWh and shares
+abbrev pub with_kwh : (kwh etii qhs : ℕ) → Bill → Bill
+with_kwh kwh etii qhs b = record { contract = b.contract; first = b.first; last = b.last; kwh = kwh; etii = etii; qhs = qhs; reference = b.reference; supply = b.supply }
+
 pub record RangesKept : Type 0 where
   pub bills : map keeps_ranges held_bills ≡ map (λ e. e.kept) held_bills
+  -- a row that keeps the ranges has at most 100,000,000 kWh, and keeps them with any kWh up to that and any shares that don't exceed it
+  pub most_kwh : (k : Contract) (b : Bill) → bill_ok k b ≡ true → b.kwh ≤ most_kwh_stored
+  pub any_kwh : (k : Contract) (b : Bill) → bill_ok k b ≡ true → (kwh etii qhs : ℕ) → etii + qhs ≤ kwh → kwh ≤ most_kwh_stored → bill_ok k (with_kwh kwh etii qhs b) ≡ true
   -- a row that keeps the ranges keeps them with any last day of the scheme that isn't across an original end, whatever months it then touches
   pub any_last_day : (k : Contract) (b : Bill) → bill_ok k b ≡ true → (last : ℕ) → b.first ≤ last → last ≤ 851 → crosses_end k.amendment b.first last ≡ false → bill_ok k (ending_on last b) ≡ true
   pub in_range : map (contract_ranges 0) contracts_in_range ≡ map (λ _. true) contracts_in_range

@@ -1,6 +1,6 @@
 -- Every answer from the sheet: what a call answers by the sheet before it and the pence that the claims before it answered. It reads no
 -- row and no stored amount. Assumes nothing.
-use Rattle.std.specs.Prelude.{◌≡◌, not, cond, List, [], ◌∷◌, ◌++◌, ℕ, ◌/◌, ◌%◌, ◌<◌, ◌≤◌, eqb, ℤ, pos, ◌-ℤ◌, ◌*ℤ◌}
+use Rattle.std.specs.Prelude.{◌≡◌, not, cond, List, [], ◌∷◌, ◌++◌, ℕ, ◌/◌, ◌%◌, ◌<◌, ◌≤◌, eqb, ℤ, pos, ◌+ℤ◌, ◌-ℤ◌, ◌*ℤ◌}
 use Rattle.std.proofs.Math.IntN.{sub_ℕ}
 use Rattle.limits.specs.Limits.{ticks_per_penny}
 use Rattle.basics.specs.Lists.{total, count}
@@ -11,8 +11,9 @@ use Rattle.model.specs.OpenContracts.{contract_at}
 use Rattle.model.specs.declared.Call.{Call}
 use Rattle.model.specs.Calls.{CallWithBook, named, requested_bill, claim_pence, ◌with◌}
 use Rattle.model.specs.Rules.{Rules, refusal, unless_refused, part_of_due}
-use Rattle.model.specs.Sheet.{Sheet, view, accept, due}
-use Rattle.model.specs.History.{Machine, sheet_after, state_after, answers_to}
+use Rattle.model.specs.Sheet.{Sheet, view, accept, step, due}
+use Rattle.model.specs.History.{run, replies, Machine, sheet_after, state_after, answers_to}
+use Rattle.model.specs.Balance.{sheet_of}
 
 module _ (R : Rules) where
   -- the part of due of the standing bill with that contract and first day, 0 where there is none
@@ -49,6 +50,11 @@ module _ (R : Rules) where
   abbrev pub EveryAnswerFromTheSheet : Machine → Type 0
   EveryAnswerFromTheSheet m = (territory : ℕ) → territory ≤ 1 → (h : List CallWithBook) (c : CallWithBook) →
       m.answer (state_after m territory h) c ≡ sheet_answer (sheet_after R territory h) (sumℤ claim_pence (answers_to m territory h)) c
+
+  -- the same from any good state on, of the sheet that begins with its own facts and of the pence that it had
+  abbrev pub StoredAnswersFromTheSheet : (m : Machine) → (good : m.State → Type 0) → Type 0
+  StoredAnswersFromTheSheet m good = (s : m.State) → good s → (h : List CallWithBook) (c : CallWithBook) →
+      m.answer (run m.step s h) c ≡ sheet_answer (run (step R) (sheet_of (m.facts s)) h) (pos (m.facts s).pence +ℤ sumℤ claim_pence (replies m.step m.answer s h)) c
 
   -- so a claim that the sheet accepts, as the last call, is answered as one and leaves an unclaimed amount of 0 to 9,999
   abbrev pub EveryAcceptedClaimLeavesRest : Machine → Type 0

@@ -1,0 +1,41 @@
+-- Number 8 turns down a bill or rebill whose kWh, S or WAP is out of range, where no earlier test fits. Assumes nothing.
+use mathlib.Core.Path.{◌≡◌, refl}
+use mathlib.Core.Bool.{false}
+use mathlib.Core.List.{List, [], ◌∷◌, ◌++◌}
+use Prim.Native.Nat.{ℕ}
+use lib.ListN.{drop}
+use Rattle.basics.proofs.Tests.{not-no}
+use Rattle.rates.specs.TermsTaken.{crosses_end}
+use Rattle.model.specs.declared.Call.{Call}
+use Rattle.model.specs.declared.Request.{Request}
+use Rattle.model.specs.Calls.{View, Test, ◌if◌, first_of, ◌with◌}
+use Rattle.model.specs.Rules.{refusal}
+use Rattle.model.specs.PresentRules.{bad_book, bad_span, bad_months, bad_amounts, open_tests, tests}
+use Rattle.model.specs.AcceptedCalls.{contract_named}
+use Rattle.model.specs.NumberEight.{WrongAmountsGiven, NumberEight}
+use Rattle.model.proofs.Refusals.{fits_any, clear, only-place}
+
+module _ (v : View) (q : Request) (book : List ℕ) where
+  -- the tests before number 8
+  abbrev earlier : List Test
+  earlier =
+      (3 if bad_book book)
+      ∷ open_tests v q.contract
+      ++ ((7 if bad_span q.first q.last)
+      ∷ (15 if bad_months (contract_named v q).kind q.first q.last)
+      ∷ (17 if crosses_end (contract_named v q).amendment q.first q.last)
+      ∷ [])
+
+  given : (later : List Test) → fits_any later 8 ≡ false → first_of (earlier ++ ((8 if bad_amounts (contract_named v q) q) ∷ later)) ≡ 8 → WrongAmountsGiven v q book
+  unfolding open_tests
+  given later none e =
+      let found = only-place earlier 7 _ later refl none e in
+      let p = clear earlier tt found.0 in
+      record { span = record { right = record { prices = p 3; number = p 4; opened = not-no _ (p 5); days = p 7 }; months = p 15; inside = p 17 }; amounts = found.1 }
+
+pub number_eight : NumberEight
+unfolding refusal tests
+number_eight = record {
+  bills = λ v q book. (given v q book (drop 7 (tests v (Call.Bill q with book))) refl, λ g. rw (g.span.right.prices, g.span.right.number, g.span.right.opened, g.span.right.days, g.span.months, g.span.inside, g.amounts));
+  rebills = λ v q book. (given v q book (drop 7 (tests v (Call.Rebill q with book))) refl, λ g. rw (g.span.right.prices, g.span.right.number, g.span.right.opened, g.span.right.days, g.span.months, g.span.inside, g.amounts));
+}
