@@ -14,10 +14,12 @@ use Rattle.model.proofs.Run.{landlord_example, certificate_inside_example, blend
 use Rattle.model.proofs.PriceOfEveryDay.{price_of_every_day}
 use Rattle.model.proofs.AcceptedCalls.{accepted_where_none_fits}
 use Rattle.model.proofs.NumberFifteen.{number_fifteen}
+use Rattle.model.proofs.NumberEight.{number_eight}
+use Rattle.model.proofs.LargestBill.{largest_bill}
 use Rattle.model.proofs.QuarterExample.{quarter_example}
 use Rattle.model.proofs.StoredEarlier.{stored_earlier}
 use Rattle.model.proofs.Postings.{floor_leaves_rest}
-use Rattle.layout.proofs.Theorems.{packed_size, fresh_ledger, round_trips, claims_kept, amounts_kept, demand_three, stored_ledgers_balance, packed_histories_hold_their_facts, packed_answers_from_the_sheet, packed_same_as_postings, amend_alters_no_row, number_two_first, number_two_meets_no_call}
+use Rattle.layout.proofs.Theorems.{packed_size, fresh_ledger, round_trips, claims_kept, amounts_kept, demand_three, stored_ledgers_balance, stored_ledgers_answer, packed_histories_hold_their_facts, packed_answers_from_the_sheet, packed_same_as_postings, amend_alters_no_row, larger_rows_were_stored, number_two_first, number_two_meets_no_call}
 use Rattle.layout.proofs.RowsInOrder.{rows_in_order}
 use Rattle.layout.proofs.LayoutExample.{layout_example}
 use Rattle.contract_calls.proofs.StartAnswers.{start_tests}
@@ -35,6 +37,8 @@ all-established = record {
   at_the_boundaries = at_the_boundaries;
   accepted_where_none_fits = accepted_where_none_fits;
   number_fifteen = number_fifteen;
+  number_eight = number_eight;
+  largest_bill = largest_bill;
   start_tests = start_tests;
   table_of_dates = table_of_dates;
   day_and_date_inverse = day_and_date_inverse;
@@ -69,9 +73,11 @@ all-established = record {
   packed_histories_hold_their_facts = packed_histories_hold_their_facts;
   demand_three = demand_three;
   stored_ledgers_balance = stored_ledgers_balance;
+  stored_ledgers_answer = stored_ledgers_answer;
   packed_answers_from_the_sheet = packed_answers_from_the_sheet;
   number_two_meets_no_call = number_two_meets_no_call;
   amend_alters_no_row = amend_alters_no_row;
+  larger_rows_were_stored = larger_rows_were_stored;
   packed_same_as_postings = packed_same_as_postings;
   floor_leaves_rest = floor_leaves_rest;
   numbers_read_back = numbers_read_back;

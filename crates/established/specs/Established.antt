@@ -16,11 +16,13 @@ use Rattle.model.specs.BlendAndExtendExample.{BlendAndExtendExample}
 use Rattle.model.specs.PriceOfEveryDay.{PriceOfEveryDay}
 use Rattle.model.specs.AcceptedCalls.{AcceptedWhereNoneFits}
 use Rattle.model.specs.NumberFifteen.{NumberFifteen}
+use Rattle.model.specs.NumberEight.{NumberEight}
+use Rattle.model.specs.LargestBill.{LargestBill}
 use Rattle.model.specs.QuarterExample.{QuarterExample}
 use Rattle.model.specs.StoredEarlier.{StoredEarlier}
 use Rattle.model.specs.Postings.{FloorLeavesRest}
 use Rattle.layout.specs.RowsInOrder.{RowsInOrder}
-use Rattle.layout.specs.Theorems.{PackedSize, FreshLedger, RoundTrips, ClaimsKept, AmountsKept, DemandThree, StoredLedgersBalance, PackedHistoriesHoldTheirFacts, PackedAnswersFromTheSheet, PackedSameAsPostings, AmendAltersNoRow, NumberTwoFirst, NumberTwoMeetsNoCall}
+use Rattle.layout.specs.Theorems.{PackedSize, FreshLedger, RoundTrips, ClaimsKept, AmountsKept, DemandThree, StoredLedgersBalance, StoredLedgersAnswer, PackedHistoriesHoldTheirFacts, PackedAnswersFromTheSheet, PackedSameAsPostings, AmendAltersNoRow, LargerRowsWereStored, NumberTwoFirst, NumberTwoMeetsNoCall}
 use Rattle.layout.specs.LayoutExample.{LayoutExample}
 use Rattle.contract_calls.specs.Start.{StartTests}
 use Rattle.text.specs.Numbers.{NumbersReadBack}
@@ -36,6 +38,8 @@ pub record Established : Type 0 where
   pub at_the_boundaries : AtTheBoundaries
   pub accepted_where_none_fits : AcceptedWhereNoneFits
   pub number_fifteen : NumberFifteen
+  pub number_eight : NumberEight
+  pub largest_bill : LargestBill
   pub start_tests : StartTests
   pub table_of_dates : TableOfDates
   pub day_and_date_inverse : DayAndDateInverse
@@ -73,9 +77,11 @@ pub record Established : Type 0 where
   -- demand 3: every history balances, and the move from postings
   pub demand_three : DemandThree
   pub stored_ledgers_balance : StoredLedgersBalance
+  pub stored_ledgers_answer : StoredLedgersAnswer
   pub packed_answers_from_the_sheet : PackedAnswersFromTheSheet
   pub number_two_meets_no_call : NumberTwoMeetsNoCall
   pub amend_alters_no_row : AmendAltersNoRow
+  pub larger_rows_were_stored : LargerRowsWereStored
   pub packed_same_as_postings : PackedSameAsPostings
   pub floor_leaves_rest : FloorLeavesRest
   -- the program

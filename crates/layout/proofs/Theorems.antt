@@ -18,15 +18,16 @@ use Rattle.model.specs.Ledger.{Ledger, fresh, view, outcome_turned_down, accept,
 use Rattle.model.specs.StoredEarlier.{RatedByDay}
 use Rattle.model.proofs.StoredEarlier.{by_day, stored_earlier}
 use Rattle.model.proofs.HoldsFacts.{bytes-hold}
-use Rattle.model.proofs.SheetAnswers.{bytes-answer-from-the-sheet, accepted-claim-leaves-rest}
+use Rattle.model.proofs.SheetAnswers.{bytes-answer-from-the-sheet, bytes-answer-from-the-stored-sheet, accepted-claim-leaves-rest}
 use Rattle.model.proofs.Postings.{bytes-same-as-postings}
 use Rattle.model.proofs.StaysWellFormed.{stays-act}
 use Rattle.model.proofs.Amendments.{every-amend-keeps-parts}
-use Rattle.model.proofs.BytesBalance.{bytes-balance, bytes-balance-goes-on, bytes-well-formed}
+use Rattle.model.proofs.LargestBill.{bytes-larger-rows-stood-before, bytes-no-larger-row}
+use Rattle.model.proofs.BytesBalance.{bytes-balance, bytes-balance-goes-on, bytes-well-formed, stored-well-formed}
 use Rattle.layout.specs.Layout.{header_bytes, is_well_formed, format}
 use Rattle.layout.specs.Offsets.{ledger_length}
 use Rattle.layout.specs.Present.{rules, layout, Formed, facts, bytes, machine}
-use Rattle.layout.specs.Theorems.{PackedSize, FreshLedger, RoundTrips, ClaimsKept, AmountsKept, DemandThree, StoredLedgersBalance, PackedHistoriesHoldTheirFacts, PackedAnswersFromTheSheet, PackedSameAsPostings, AmendAltersNoRow, NumberTwoMeetsNoCall, NumberTwoFirst}
+use Rattle.layout.specs.Theorems.{PackedSize, FreshLedger, RoundTrips, ClaimsKept, AmountsKept, DemandThree, StoredLedgersBalance, StoredLedgersAnswer, PackedHistoriesHoldTheirFacts, PackedAnswersFromTheSheet, PackedSameAsPostings, AmendAltersNoRow, LargerRowsWereStored, NumberTwoMeetsNoCall, NumberTwoFirst}
 use Rattle.layout.proofs.RoundTrips.{unpacked-packed, well-formed-exactly}
 use Rattle.layout.proofs.Present.{present, format-laws, formed-length, facts-kept, repacked}
 use Rattle.layout.proofs.Changes.{fresh-parts}
@@ -66,6 +67,12 @@ demand_three =
 pub stored_ledgers_balance : StoredLedgersBalance
 stored_ledgers_balance = bytes-balance-goes-on rules present.rules (format rules layout) format-laws
 
+pub stored_ledgers_answer : StoredLedgersAnswer
+stored_ledgers_answer = record {
+  well_formed = stored-well-formed rules present.rules (format rules layout) format-laws;
+  from_the_sheet = bytes-answer-from-the-stored-sheet rules present.rules (format rules layout) format-laws;
+}
+
 pub packed_histories_hold_their_facts : PackedHistoriesHoldTheirFacts
 packed_histories_hold_their_facts = bytes-hold rules present.rules (format rules layout) format-laws
 
@@ -103,6 +110,12 @@ no-numbers b c end fix entry book = go (is_well_formed rules layout b) (refusal 
 
 pub amend_alters_no_row : AmendAltersNoRow
 amend_alters_no_row = record { answers = no-numbers; rows = rows-kept; parts = every-amend-keeps-parts rules present.rules }
+
+pub larger_rows_were_stored : LargerRowsWereStored
+larger_rows_were_stored = record {
+  stored = bytes-larger-rows-stood-before present.rules (format rules layout) format-laws;
+  none = bytes-no-larger-row present.rules (format rules layout) format-laws;
+}
 
 pub number_two_meets_no_call : NumberTwoMeetsNoCall
 number_two_meets_no_call = bytes-well-formed rules present.rules (format rules layout) format-laws

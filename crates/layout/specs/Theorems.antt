@@ -8,12 +8,13 @@ use Rattle.model.specs.Calls.{CallWithBook, values_of, ◌with◌}
 use Rattle.model.specs.Ledger.{Ledger, fresh}
 use Rattle.model.specs.WellFormed.{WellFormed}
 use Rattle.model.specs.StoredEarlier.{rules_with, RatedByDay}
-use Rattle.model.specs.History.{state_after}
+use Rattle.model.specs.History.{run, state_after}
 use Rattle.model.specs.Balance.{EveryHistoryBalances, StoredBalanceGoesOn}
 use Rattle.model.specs.HoldsFacts.{EveryHistoryHoldsItsFacts}
-use Rattle.model.specs.SheetAnswers.{EveryAnswerFromTheSheet, EveryAcceptedClaimLeavesRest}
+use Rattle.model.specs.SheetAnswers.{EveryAnswerFromTheSheet, StoredAnswersFromTheSheet, EveryAcceptedClaimLeavesRest}
 use Rattle.model.specs.Postings.{SameAsPostings}
 use Rattle.model.specs.Amendments.{EveryAmendKeepsParts}
+use Rattle.model.specs.LargestBill.{LargerRowsStoodBefore, NoLargerRow}
 use Rattle.layout.specs.Offsets.{ledger_length}
 use Rattle.layout.specs.Present.{rules, Formed, facts, bytes, machine}
 
@@ -57,6 +58,11 @@ pub record DemandThree : Type 0 where
 abbrev pub StoredLedgersBalance : Type 0
 StoredLedgersBalance = StoredBalanceGoesOn rules machine Formed
 
+-- and a well-formed one stays so, so that number 2 meets none of its later calls, and answers each of them from the sheet
+pub record StoredLedgersAnswer : Type 0 where
+  pub well_formed : (b : List ℕ) → Formed b → (h : List CallWithBook) → Formed (run machine.step b h)
+  pub from_the_sheet : StoredAnswersFromTheSheet rules machine Formed
+
 -- demand 2, for every history: the bytes hold exactly the sheet's facts
 abbrev pub PackedHistoriesHoldTheirFacts : Type 0
 PackedHistoriesHoldTheirFacts = EveryHistoryHoldsItsFacts rules machine
@@ -75,6 +81,12 @@ pub record AmendAltersNoRow : Type 0 where
   pub rows : (b : List ℕ) → Formed b → (c end fix entry : ℕ) (book : List ℕ) → (facts (machine.step b (Call.Amend c end fix entry with book))).rows ≡ (facts b).rows
   -- and in every history it changes no bill's part of due
   pub parts : EveryAmendKeepsParts rules
+
+-- no call makes a row of more than the most kWh that a bill may give: after calls on a stored ledger each such row has the bill of one that it had,
+-- and after a history there is none
+pub record LargerRowsWereStored : Type 0 where
+  pub stored : LargerRowsStoodBefore machine Formed
+  pub none : NoLargerRow machine
 
 -- number 2 comes before all others: whatever the bytes and the call, where the bytes aren't a well-formed ledger the call is turned down by
 -- number 2 and no byte is changed
