@@ -1,7 +1,8 @@
 -- What the gate asks for, from outside the crates that state it: the value that gives all that is established, of the record that gathers
 -- it; and clause by clause the round trips, the formula with its numbers, the terms that a bill takes, the laws of fields and of amounts, the order
--- of rows, ledgers stored earlier, the price of every day, the accepted calls, numbers 15 and 2, what an amend leaves, the facts held and demand 3,
--- also from a stored ledger on, so that no such clause can leave its record. Tables of examples aren't asked for by themselves.
+-- of rows, ledgers stored earlier, the price of every day, the accepted calls, numbers 15, 8 and 2, the ranges of a row and the largest bill, what an
+-- amend leaves, the facts held, every answer and demand 3, also from a stored ledger on, so that no such clause can leave its record. Tables of
+-- examples aren't asked for by themselves.
 use mathlib.Core.Path.{◌≡◌, refl, ap, ◌∙◌}
 use mathlib.Core.Bool.{Bool, true, false, not, cond, ◌&&◌, ◌||◌}
 use lib.Dec.{leb, ltb, eqb}
@@ -10,7 +11,8 @@ use mathlib.Core.Logic.{◌↔◌, ◌⊎◌}
 use Prim.Native.Nat.{ℕ, suc, ◌+◌, ◌-◌, ◌*◌, ◌/◌, ◌^◌, ◌≤◌, ◌<◌}
 use lib.IntN.{ℤ, pos, ◌+ℤ◌, ◌-ℤ◌, ◌*ℤ◌}
 use lib.ListN.{length}
-use Rattle.limits.specs.Limits.{row_count}
+use Rattle.limits.specs.Limits.{most_kwh_given, row_count}
+use Rattle.basics.specs.Tests.{every}
 use Rattle.basics.specs.Lists.{total, count, All}
 use Rattle.basics.specs.Integers.{minℤ, at_least_zero, sumℤ}
 use Rattle.fields.specs.Field.{field_at, set_field, AreBytes}
@@ -40,13 +42,14 @@ use Rattle.model.specs.declared.Answer.{Answer}
 use Rattle.model.specs.declared.Answer.TheVariants.{Refused, Claimed, Totalled}
 use Rattle.model.specs.declared.Call.{Call}
 use Rattle.model.specs.declared.Request.{Request}
-use Rattle.model.specs.Codes.{is_fixed, is_amended, opening, certify, amend}
+use Rattle.model.specs.Codes.{is_fixed, is_flexible, is_amended, opening, certify, amend}
 use Rattle.model.specs.OpenContracts.{Contracts, contract_at, contract_of, is_open}
 use Rattle.model.specs.Book.{book_index, reference}
 use Rattle.model.specs.Calls.{CallWithBook, View, named, sharing, ends_after, requested_bill, values_of, customer_amount, claim_pence, ◌with◌}
 use Rattle.model.specs.PresentRules.{bad_book, bad_number, not_amendable, bad_kind, bad_class, bad_days, bad_effective, bad_span, bad_amendment_days, bad_months, bad_amounts, bad_shares, no_price, bill_ok}
 use Rattle.model.specs.AcceptedCalls.{RightContractAndDays, RightNumbers}
 use Rattle.model.specs.NumberFifteen.{TwoMonthsGiven}
+use Rattle.model.specs.NumberEight.{WrongAmountsGiven}
 use Rattle.model.specs.Ledger.{Ledger, comes_after}
 use Rattle.model.specs.Rules.{refusal, part_of_due, standing_row}
 use Rattle.model.specs.Sheet
@@ -55,6 +58,7 @@ use Rattle.model.specs.WellFormed.{WellFormed, RowOk, Apart}
 use Rattle.model.specs.StoredEarlier.{rules_with}
 use Rattle.model.specs.History.{run, replies, sheet_after, state_after, answers_to}
 use Rattle.model.specs.HoldsFacts.{HoldsFacts}
+use Rattle.model.specs.SheetAnswers.{sheet_answer}
 use Rattle.model.specs.Balance.{Balanced, sheet_of}
 use Rattle.records.specs.Places.{places}
 use Rattle.records.specs.Pairs.{every_pair, every_neighbour}
@@ -184,6 +188,9 @@ amendable k = refl
 
 pub kinds-fixed : (fix entry : ℕ) → (is_fixed (Fixed fix entry) ≡ true) × (is_fixed Variable ≡ false) × (is_fixed Flexible ≡ false) × (is_fixed Index ≡ false)
 kinds-fixed fix entry = (refl, refl, refl, refl)
+
+pub kinds-flexible : (fix entry : ℕ) → (is_flexible (Fixed fix entry) ≡ false) × (is_flexible Variable ≡ false) × (is_flexible Flexible ≡ true) × (is_flexible Index ≡ false)
+kinds-flexible fix entry = (refl, refl, refl, refl)
 
 pub amended-already : (end fix entry : ℕ) → (is_amended Unamended ≡ false) × (is_amended (Amended end fix entry) ≡ true)
 amended-already end fix entry = (refl, refl)
@@ -415,7 +422,7 @@ pub any_last_day : (k : Contract) (b : Bill) → bill_ok k b ≡ true → (last 
     → bill_ok k (record { contract = b.contract; first = b.first; last = last; kwh = b.kwh; etii = b.etii; qhs = b.qhs; reference = b.reference; supply = b.supply }) ≡ true
 any_last_day = asked.ranges_kept.any_last_day
 
--- ---- the calls that are accepted, and those that number 15 turns down
+-- ---- the calls that are accepted, and those that numbers 15 and 8 turn down
 
 module _ (v : View) (book : List ℕ) where
   pub claim-taken : v.claims < 1000 → refusal rules v (Call.Claim with book) ≡ 0
@@ -483,11 +490,81 @@ module _ (v : View) (book : List ℕ) where
     pub rebill-by-15 : (refusal rules v (Call.Rebill q with book) ≡ 15) ↔ AtNumber15
     rebill-by-15 = let law = asked.number_fifteen v (Call.Rebill q with book) in (λ e. fields (law.0 e), λ t. law.1 (record { right = dated t.0; months = t.1 }))
 
+    -- number 8: 3, 4, 5, 7, 15 and 17 don't fit, and kWh, S or WAP is out of range
+    abbrev AtNumber8 : Type 0
+    AtNumber8 = UpToDays × (bad_months named-contract.kind q.first q.last ≡ false) × (crosses_end named-contract.amendment q.first q.last ≡ false) × (bad_amounts named-contract q ≡ true)
+
+    amounts-given : AtNumber8 → WrongAmountsGiven v q book
+    amounts-given t = record { span = record { right = dated t.0; months = t.1; inside = t.2 }; amounts = t.3 }
+
+    given-amounts : WrongAmountsGiven v q book → AtNumber8
+    given-amounts g = ((g.span.right.prices, g.span.right.number, g.span.right.opened, g.span.right.days), g.span.months, g.span.inside, g.amounts)
+
+    pub bill-by-8 : (refusal rules v (Call.Bill q with book) ≡ 8) ↔ AtNumber8
+    bill-by-8 = let law = asked.number_eight.bills v q book in (λ e. given-amounts (law.0 e), λ t. law.1 (amounts-given t))
+
+    pub rebill-by-8 : (refusal rules v (Call.Rebill q with book) ≡ 8) ↔ AtNumber8
+    rebill-by-8 = let law = asked.number_eight.rebills v q book in (λ e. given-amounts (law.0 e), λ t. law.1 (amounts-given t))
+
+    -- the most kWh
+    pub bill-kwh : refusal rules v (Call.Bill q with book) ≡ 0 → q.kwh ≤ most_kwh_given
+    bill-kwh = asked.largest_bill.bills v q book
+
+    pub rebill-kwh : refusal rules v (Call.Rebill q with book) ≡ 0 → q.kwh ≤ most_kwh_given
+    rebill-kwh = asked.largest_bill.rebills v q book
+
   pub no-cert-by-15 : (c class effective : ℕ) → refusal rules v (Call.Cert c class effective with book) ≡ 15 → ⊥
   no-cert-by-15 c class effective = (asked.number_fifteen v (Call.Cert c class effective with book)).0
 
   pub no-cancel-by-15 : (c first : ℕ) → refusal rules v (Call.Cancel c first with book) ≡ 15 → ⊥
   no-cancel-by-15 c first = (asked.number_fifteen v (Call.Cancel c first with book)).0
+
+-- 8: kWh above the most that a bill may give, S or WAP above 999,999, or a WAP that isn't 0 where the contract isn't flexible
+pub wrong-amounts : (k : Contract) (q : Request)
+    → bad_amounts k q ≡ ltb most_kwh_given q.kwh || (ltb 999999 q.supply || (ltb 999999 q.wap || (not (is_flexible k.kind) && not (eqb q.wap 0))))
+unfolding bad_amounts
+wrong-amounts k q = refl
+
+pub larger-wrong : (k : Contract) (q : Request) → most_kwh_given < q.kwh → bad_amounts k q ≡ true
+larger-wrong = asked.largest_bill.larger
+
+-- 9 and 10: a bill of the contract with that first day, and one that shares a day with the span
+pub named-as : (c first : ℕ) (b : Bill) → named c first b ≡ eqb b.contract c && eqb b.first first
+unfolding named
+named-as c first b = refl
+
+pub sharing-as : (c first last : ℕ) (b : Bill) → sharing c first last b ≡ eqb b.contract c && (leb b.first last && leb first b.last)
+unfolding sharing
+sharing-as c first last b = refl
+
+-- ---- the ranges of a held row; rows of more kWh than a bill may give
+
+pub row-ranges : (k : Contract) (b : Bill)
+    → bill_ok k b
+    ≡ every (not (bad_span b.first b.last)
+    ∷ leb b.kwh 100000000
+    ∷ not (ltb b.kwh (b.etii + b.qhs))
+    ∷ leb b.supply 999999
+    ∷ leb b.reference 999999
+    ∷ not (no_price k.kind b.reference)
+    ∷ not (crosses_end k.amendment b.first b.last)
+    ∷ [])
+unfolding bill_ok
+row-ranges k b = refl
+
+pub row-kwh : (k : Contract) (b : Bill) → bill_ok k b ≡ true → b.kwh ≤ 100000000
+row-kwh = asked.ranges_kept.most_kwh
+
+pub any_kwh : (k : Contract) (b : Bill) → bill_ok k b ≡ true → (kwh etii qhs : ℕ) → etii + qhs ≤ kwh → kwh ≤ 100000000
+    → bill_ok k (record { contract = b.contract; first = b.first; last = b.last; kwh = kwh; etii = etii; qhs = qhs; reference = b.reference; supply = b.supply }) ≡ true
+any_kwh = asked.ranges_kept.any_kwh
+
+pub larger-rows-stored : (b : List ℕ) → Formed b → (h : List CallWithBook)
+    → All (λ x. most_kwh_given < x.bill.kwh → Memᴰ x.bill (map (λ y. y.bill) (facts b).rows)) (facts (run machine.step b h)).rows
+larger-rows-stored = asked.larger_rows_were_stored.stored
+
+pub no-larger-row : (territory : ℕ) → territory ≤ 1 → (h : List CallWithBook) → All (λ x. x.bill.kwh ≤ most_kwh_given) (facts (state_after machine territory h)).rows
+no-larger-row = asked.larger_rows_were_stored.none
 
 -- ---- number 2
 
@@ -499,6 +576,9 @@ number-two-unchanged = asked.number_two_first.unchanged
 
 pub number-two-in-no-history : (territory : ℕ) → territory ≤ 1 → (h : List CallWithBook) → Formed (state_after machine territory h)
 number-two-in-no-history = asked.number_two_meets_no_call
+
+pub number-two-in-no-stored-ledger : (b : List ℕ) → Formed b → (h : List CallWithBook) → Formed (run machine.step b h)
+number-two-in-no-stored-ledger = asked.stored_ledgers_answer.well_formed
 
 -- ---- an amend answers no numbers, alters no row, and changes no bill's part of due
 
@@ -571,6 +651,11 @@ module _ (territory : ℕ) (either : territory ≤ 1) (h : List CallWithBook) wh
   pub pence-held : pos left.pence ≡ sumℤ claim_pence answers
   pence-held = facts-held.pence
 
+  -- every answer is the sheet's
+
+  pub answer-next : (c : CallWithBook) → machine.answer (state_after machine territory h) c ≡ sheet_answer rules sheet (sumℤ claim_pence answers) c
+  answer-next = asked.packed_answers_from_the_sheet territory either h
+
   -- demand 3
 
   pub due : Sheet.due rules sheet ≡ total part sheet.bills
@@ -609,7 +694,8 @@ module _ (territory : ℕ) (either : territory ≤ 1) (h : List CallWithBook) wh
       (u : ℕ) × (machine.answer (state_after machine territory claimed) (Call.Total with []) ≡ Totalled (Sheet.due rules (sheet_after rules territory claimed)) (pos u)) × (u < 10000)
   claim-next = asked.demand_three.last_claim territory either h
 
--- ---- of any well-formed ledger that balances with the answers to its earlier calls: the same after every list of calls
+-- ---- of any well-formed ledger: where it balances with the answers to its earlier calls, it does so after every list of calls; each answer is the
+-- sheet's
 
 module _ (b : List ℕ) (formed : Formed b) (earlier : List Answer) (h : List CallWithBook) where
   abbrev stored : Sheet
@@ -622,3 +708,8 @@ module _ (b : List ℕ) (formed : Formed b) (earlier : List Answer) (h : List Ca
       → Balanced rules (run (Sheet.step rules) stored h) (earlier ++ replies machine.step machine.answer b h) (machine.answer later (Call.Total with [])) (facts later).rows
   unfolding sheet_of
   goes_on balances = asked.stored_ledgers_balance b formed earlier balances h
+
+  pub later-answer : (c : CallWithBook) → machine.answer later c
+      ≡ sheet_answer rules (run (Sheet.step rules) stored h) (pos (facts b).pence +ℤ sumℤ claim_pence (replies machine.step machine.answer b h)) c
+  unfolding sheet_of
+  later-answer = asked.stored_ledgers_answer.from_the_sheet b formed h
