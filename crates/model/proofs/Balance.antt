@@ -1,4 +1,5 @@
 -- Every history balances. Assumes nothing.
+use Rattle.std.specs.Prelude.{Result, Ok}
 use mathlib.Core.Path.{◌≡◌, refl, sym, ap, ◌∙◌, subst}
 use mathlib.Core.Bool.{false≢true}
 use mathlib.Core.List.{List, [], ◌∷◌, ◌++◌, Memᴰ}
@@ -66,11 +67,11 @@ module _ (R : Rules) (ok : RulesLaws R) where
   pub pence-run : (h : List CallWithBook) (l : Ledger) (s : Sheet) → Related R l s → pos (run (step R) l h).pence ≡ pos l.pence +ℤ sumℤ claim_pence (replies (step R) (answer R) l h)
   pence-run = conserves (step R) (answer R) (step_sheet R) (Related R) keep (λ l. pos l.pence) claim_pence pence-step
 
-  pub total-says : (l : Ledger) → answer R l (Call.Total with []) ≡ Totalled (due_ledger l) (sub_ℕ (due_ledger l) (ticks_per_penny * l.pence))
+  pub total-says : (l : Ledger) → answer R l (Call.Total with []) ≡ Ok (Totalled (due_ledger l) (sub_ℕ (due_ledger l) (ticks_per_penny * l.pence)))
   unfolding answer outcome accept_ledger
-  total-says l = subst (λ (n : ℕ). (unless_refused n (accept_ledger R l (Call.Total with [])) (outcome_turned_down l n)).answers ≡ Totalled (due_ledger l) (sub_ℕ (due_ledger l) (ticks_per_penny * l.pence))) (sym (ok.totals (view_ledger l) [])) refl
+  total-says l = subst (λ (n : ℕ). (unless_refused n (accept_ledger R l (Call.Total with [])) (outcome_turned_down l n)).answers ≡ Ok (Totalled (due_ledger l) (sub_ℕ (due_ledger l) (ticks_per_penny * l.pence)))) (sym (ok.totals (view_ledger l) [])) refl
 
-  act-floor : (l : Ledger) (c : CallWithBook) (p : ℤ) (rest : ℕ) → (accept_ledger R l c).answers ≡ Claimed p rest → (accept_ledger R l c).next.pence ≡ due_ledger (accept_ledger R l c).next / ticks_per_penny
+  act-floor : (l : Ledger) (c : CallWithBook) (p : ℤ) (rest : ℕ) → (accept_ledger R l c).answers ≡ Ok (Claimed p rest) → (accept_ledger R l c).next.pence ≡ due_ledger (accept_ledger R l c).next / ticks_per_penny
   unfolding accept_ledger due_ledger
   act-floor l (Call.Open c fuel kind fix entry with book) p rest e = cc
   act-floor l (Call.Bill b with book) p rest e = cc
@@ -83,12 +84,12 @@ module _ (R : Rules) (ok : RulesLaws R) where
   act-floor l (Call.Amend c end fix entry with book) p rest e = cc
 
   -- an accepted claim leaves the pence at the floor, and no other call answers as it does
-  claim-floor : (l : Ledger) (c : CallWithBook) (p : ℤ) (rest : ℕ) → answer R l c ≡ Claimed p rest → (step R l c).pence ≡ due_ledger (step R l c) / ticks_per_penny
+  claim-floor : (l : Ledger) (c : CallWithBook) (p : ℤ) (rest : ℕ) → answer R l c ≡ Ok (Claimed p rest) → (step R l c).pence ≡ due_ledger (step R l c) / ticks_per_penny
   unfolding answer step due_ledger
-  claim-floor l c p rest = either-outcome R l c (λ o. o.answers ≡ Claimed p rest → o.next.pence ≡ due_ledger o.next / ticks_per_penny) (λ e. act-floor l c p rest)
+  claim-floor l c p rest = either-outcome R l c (λ o. o.answers ≡ Ok (Claimed p rest) → o.next.pence ≡ due_ledger o.next / ticks_per_penny) (λ e. act-floor l c p rest)
       (λ n e f. let z : ◌≡◌ {A = ℕ} 0 1 = cc in let y : ⊥ = omega arith in absurd y)
 
-  pub last_claim : (h : List CallWithBook) (l : Ledger) (before : List Answer) (p : ℤ) (rest : ℕ) → replies (step R) (answer R) l h ≡ before ++ (Claimed p rest ∷ []) → (run (step R) l h).pence ≡ due_ledger (run (step R) l h) / ticks_per_penny
+  pub last_claim : (h : List CallWithBook) (l : Ledger) (before : List (Result Answer ℕ)) (p : ℤ) (rest : ℕ) → replies (step R) (answer R) l h ≡ before ++ (Ok (Claimed p rest) ∷ []) → (run (step R) l h).pence ≡ due_ledger (run (step R) l h) / ticks_per_penny
   last_claim [] l [] p rest e = let z : ◌≡◌ {A = ℕ} 0 1 = cc in let y : ⊥ = omega arith in absurd y
   last_claim [] l (a ∷ before) p rest e = let z : ◌≡◌ {A = ℕ} 0 1 = cc in let y : ⊥ = omega arith in absurd y
   last_claim (c ∷ []) l [] p rest e = claim-floor l c p rest (cc)
@@ -98,16 +99,16 @@ module _ (R : Rules) (ok : RulesLaws R) where
 
   -- ---- the statement, from a related pair on: what was answered before, and what is answered after
 
-  module _ (l₀ : Ledger) (s₀ : Sheet) (r₀ : Related R l₀ s₀) (h : List CallWithBook) (earlier : List Answer)
+  module _ (l₀ : Ledger) (s₀ : Sheet) (r₀ : Related R l₀ s₀) (h : List CallWithBook) (earlier : List (Result Answer ℕ))
       (due₀ : sumℤ customer_amount earlier ≡ pos (due_ledger l₀)) (pence₀ : sumℤ claim_pence earlier ≡ pos l₀.pence)
-      (floor₀ : (before : List Answer) (p : ℤ) (rest : ℕ) → earlier ++ replies (step R) (answer R) l₀ h ≡ before ++ (Claimed p rest ∷ []) → (run (step R) l₀ h).pence ≡ due_ledger (run (step R) l₀ h) / ticks_per_penny) where
+      (floor₀ : (before : List (Result Answer ℕ)) (p : ℤ) (rest : ℕ) → earlier ++ replies (step R) (answer R) l₀ h ≡ before ++ (Ok (Claimed p rest) ∷ []) → (run (step R) l₀ h).pence ≡ due_ledger (run (step R) l₀ h) / ticks_per_penny) where
     abbrev l : Ledger
     l = run (step R) l₀ h
 
     abbrev s : Sheet
     s = run (step_sheet R) s₀ h
 
-    abbrev answered : List Answer
+    abbrev answered : List (Result Answer ℕ)
     answered = earlier ++ replies (step R) (answer R) l₀ h
 
     end : Related R l s

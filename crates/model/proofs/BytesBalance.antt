@@ -1,4 +1,5 @@
 -- The ledger kept as bytes, or as anything else that a well-formed ledger can be packed to and unpacked from: the same histories balance. Assumes nothing.
+use Rattle.std.specs.Prelude.{Result}
 use mathlib.Core.Path.{◌≡◌, refl, sym, subst}
 use mathlib.Core.Bool.{true}
 use mathlib.Core.List.{List, [], ◌++◌}
@@ -69,4 +70,4 @@ module _ (R : Rules) (ok : RulesLaws R) (f : Format) (w : FormatLaws R f) where
       carry-from (bytes_machine R f) (ledger_machine R) bytes-refine
       (λ answered next facts. Balanced R (run (Sheet.step R) (sheet_of (f.unpack b)) h) (earlier ++ answered) next facts.rows) (Call.Total with []) h b s
       (stored-balance-goes-on R ok (f.unpack b) (w.unpacked b s) earlier
-      (subst (λ (next : Answer). Balanced R (sheet_of (f.unpack b)) earlier next (f.unpack b).rows) (bytes-refine.says b (Call.Total with []) s) stored) h)
+      (subst (λ (next : Result Answer ℕ). Balanced R (sheet_of (f.unpack b)) earlier next (f.unpack b).rows) (bytes-refine.says b (Call.Total with []) s) stored) h)

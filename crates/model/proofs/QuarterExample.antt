@@ -1,4 +1,5 @@
 -- The stored quarters are well formed and balance, and calls on them answer as written, by computation. Assumes nothing.
+use Rattle.std.specs.Prelude.{Result, Ok}
 use mathlib.Core.Path.{◌≡◌, refl}
 use mathlib.Core.List.{List, [], ◌∷◌, ◌++◌}
 use Prim.Native.Nat.{ℕ}
@@ -27,7 +28,7 @@ well_formed =
     ((omega arith, tt), (tt, tt))
 
 -- no claim was answered
-no-claim : (before : List Answer) (pence : ℤ) (rest : ℕ) → earlier_answers ≡ before ++ (Claimed pence rest ∷ []) → ⊥
+no-claim : (before : List (Result Answer ℕ)) (pence : ℤ) (rest : ℕ) → earlier_answers ≡ before ++ (Ok (Claimed pence rest) ∷ []) → ⊥
 no-claim [] pence rest e = let z : ◌≡◌ {A = ℕ} 0 1 = cc in omega arith
 no-claim (a ∷ []) pence rest e = let z : ◌≡◌ {A = ℕ} 0 1 = cc in omega arith
 no-claim (a ∷ b ∷ []) pence rest e = let z : ◌≡◌ {A = ℕ} 0 1 = cc in omega arith

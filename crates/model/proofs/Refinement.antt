@@ -1,4 +1,5 @@
 -- What holds of every history of a machine holds of those of another that does the same, as of the ledger and its bytes. Assumes nothing.
+use Rattle.std.specs.Prelude.{Result}
 use mathlib.Core.Path.{◌≡◌, refl, sym, ap, ◌∙◌, subst, subst₃}
 use mathlib.Core.List.{List, [], ◌∷◌}
 use Prim.Native.Nat.{ℕ, ◌≤◌}
@@ -32,7 +33,7 @@ module _ (m n : Machine) (f : Refines m n) where
   says-run (c ∷ h) b g = λ i. f.says b c g i ∷ (says-run h (m.step b c) (f.keeps b c g) ∙ ap (λ (l : n.State). replies n.step n.answer l h) (f.steps b c g)) i
 
   -- whatever holds of the answers to a list of calls from a good state on, of the answer to a call made next and of the facts then held
-  pub carry-from : (P : List Answer → Answer → Ledger → Type 0) (c : CallWithBook) (h : List CallWithBook) (b : m.State) → f.good b
+  pub carry-from : (P : List (Result Answer ℕ) → Result Answer ℕ → Ledger → Type 0) (c : CallWithBook) (h : List CallWithBook) (b : m.State) → f.good b
       → P (replies n.step n.answer (f.read b) h) (n.answer (run n.step (f.read b) h) c) (n.facts (run n.step (f.read b) h))
       → P (replies m.step m.answer b h) (m.answer (run m.step b h) c) (m.facts (run m.step b h))
   carry-from P c h b g = subst₃ P (sym (says-run h b g)) (sym (same_answer ∙ ap (λ (l : n.State). n.answer l c) (read-run h b g))) (sym (same-facts ∙ ap n.facts (read-run h b g)))
@@ -54,7 +55,7 @@ module _ (m n : Machine) (f : Refines m n) where
     same-answers = says-run h (m.start t) (f.start-good t o) ∙ ap (λ (l : n.State). replies n.step n.answer l h) (f.start-read t o)
 
     -- the same of a history
-    pub carry : (P : List Answer → Answer → Ledger → Type 0) (c : CallWithBook)
+    pub carry : (P : List (Result Answer ℕ) → Result Answer ℕ → Ledger → Type 0) (c : CallWithBook)
         → P (answers_to n t h) (n.answer (state_after n t h) c) (n.facts (state_after n t h))
         → P (answers_to m t h) (m.answer (state_after m t h) c) (m.facts (state_after m t h))
     unfolding answers_to state_after

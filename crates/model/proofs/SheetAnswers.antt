@@ -1,4 +1,5 @@
 -- The ledger answers every call from the sheet, and so do its bytes in any format. Assumes nothing.
+use Rattle.std.specs.Prelude.{Result, Ok, Err}
 use mathlib.Core.Path.{◌≡◌, refl, sym, ap, ◌∙◌}
 use mathlib.Core.Bool.{not, cond}
 use mathlib.Core.List.{List, [], ◌∷◌, ◌++◌}
@@ -12,7 +13,7 @@ use Rattle.basics.proofs.Lists.{total-cong}
 use Rattle.rates.specs.declared.Contract.{Contract}
 use Rattle.model.specs.declared.Row.{Row}
 use Rattle.model.specs.declared.Answer.{Answer}
-use Rattle.model.specs.declared.Answer.TheVariants.{Refused, Billed, Rebilled, Certified, Cancelled, Reported, Totalled}
+use Rattle.model.specs.declared.Answer.TheVariants.{Billed, Rebilled, Certified, Cancelled, Reported, Totalled}
 use Rattle.model.specs.Codes.{certify}
 use Rattle.model.specs.OpenContracts.{Contracts, contract_at, put_contract}
 use Rattle.model.specs.declared.Call.{Call}
@@ -61,26 +62,26 @@ module _ (R : Rules) (l : Ledger) (s : Sheet) (r : Related R l s) where
 
 module _ (R : Rules) (ok : RulesLaws R) where
   certified-answer : (l : Ledger) (s : Sheet) (c class effective : ℕ) (book : List ℕ) → Related R l s → refusal R (view_sheet s) (Call.Cert c class effective with book) ≡ 0
-      → (accept_ledger R l (Call.Cert c class effective with book)).answers ≡ accepted_answer R s (pos l.pence) (Call.Cert c class effective with book)
+      → (accept_ledger R l (Call.Cert c class effective with book)).answers ≡ Ok (accepted_answer R s (pos l.pence) (Call.Cert c class effective with book))
   unfolding accept_ledger accept_sheet accepted_answer due_ledger
-  certified-answer l s c class effective book r e = λ i. Certified
+  certified-answer l s c class effective book r e = λ i. Ok (Certified
       (sub_ℕ (dues R (accept_ledger R l (Call.Cert c class effective with book)).next (accept_sheet s (Call.Cert c class effective with book)) (keep-act R ok l s (Call.Cert c class effective with book) r e) i) (dues R l s r i))
-      ((ap (λ (cs : Contracts). changes cs) r.contracts ∙ changed-rows R l s r c (certify (contract_at s.contracts c) class effective)) i)
+      ((ap (λ (cs : Contracts). changes cs) r.contracts ∙ changed-rows R l s r c (certify (contract_at s.contracts c) class effective)) i))
     where
       changes : Contracts → ℕ
       changes cs = count (λ x. not (eqb (rerated R c (certify (contract_at cs c) class effective) x).amount x.amount)) l.rows
 
-  reported : (l : Ledger) (s : Sheet) (c : ℕ) (book : List ℕ) → Related R l s → (accept_ledger R l (Call.Report c with book)).answers ≡ accepted_answer R s (pos l.pence) (Call.Report c with book)
+  reported : (l : Ledger) (s : Sheet) (c : ℕ) (book : List ℕ) → Related R l s → (accept_ledger R l (Call.Report c with book)).answers ≡ Ok (accepted_answer R s (pos l.pence) (Call.Report c with book))
   unfolding accept_ledger accepted_answer
-  reported l s c book r = λ i. Reported (r.same (λ x. cond (of_contract c x) 1 0) i) (r.same (λ x. cond (of_contract c x) x.bill.kwh 0) i) (r.same (λ x. cond (of_contract c x) x.amount 0) i)
+  reported l s c book r = λ i. Ok (Reported (r.same (λ x. cond (of_contract c x) 1 0) i) (r.same (λ x. cond (of_contract c x) x.bill.kwh 0) i) (r.same (λ x. cond (of_contract c x) x.amount 0) i))
 
-  accepted : (l : Ledger) (s : Sheet) (c : CallWithBook) → Related R l s → refusal R (view_sheet s) c ≡ 0 → (accept_ledger R l c).answers ≡ accepted_answer R s (pos l.pence) c
+  accepted : (l : Ledger) (s : Sheet) (c : CallWithBook) → Related R l s → refusal R (view_sheet s) c ≡ 0 → (accept_ledger R l c).answers ≡ Ok (accepted_answer R s (pos l.pence) c)
   unfolding accept_ledger accepted_answer
   accepted l s (Call.Open c fuel kind fix entry with book) r e = refl
-  accepted l s (Call.Bill q with book) r e = λ i. Billed (requested-reference R l s r q book i) (requested-rate R l s r q book i) (requested-amount R l s r q book i)
-  accepted l s (Call.Rebill q with book) r e = λ i. Rebilled (requested-reference R l s r q book i) (requested-rate R l s r q book i) (sub_ℕ (requested-amount R l s r q book i) (named-amount R l s r q.contract q.first i))
+  accepted l s (Call.Bill q with book) r e = λ i. Ok (Billed (requested-reference R l s r q book i) (requested-rate R l s r q book i) (requested-amount R l s r q book i))
+  accepted l s (Call.Rebill q with book) r e = λ i. Ok (Rebilled (requested-reference R l s r q book i) (requested-rate R l s r q book i) (sub_ℕ (requested-amount R l s r q book i) (named-amount R l s r q.contract q.first i)))
   accepted l s (Call.Cert c class effective with book) r e = certified-answer l s c class effective book r e
-  accepted l s (Call.Cancel c first with book) r e = λ i. Cancelled (sub_ℕ 0 (named-amount R l s r c first i))
+  accepted l s (Call.Cancel c first with book) r e = λ i. Ok (Cancelled (sub_ℕ 0 (named-amount R l s r c first i)))
   accepted l s (Call.Claim with book) r e = rw (dues R l s r, sub-pos (due_sheet R s / ticks_per_penny) l.pence)
   accepted l s (Call.Report c with book) r e = reported l s c book r
   accepted l s (Call.Total with book) r e = rw (dues R l s r, sub-pos (due_sheet R s) (ticks_per_penny * l.pence))
@@ -125,7 +126,7 @@ pub accepted-claim-leaves-rest : (R : Rules) (m : Machine) → EveryHistoryBalan
 unfolding state_after answers_to sheet_answer accepted_answer
 accepted-claim-leaves-rest R m balances answers t o h e =
     let b = balances t o (h ++ ((Call.Claim with []) ∷ [])) in
-    let says : m.answer (state_after m t h) (Call.Claim with []) ≡ accepted_answer R (sheet_after R t h) (sumℤ claim_pence (answers_to m t h)) (Call.Claim with [])
-    = answers t o h (Call.Claim with []) ∙ ap (λ (n : ℕ). unless_refused n (accepted_answer R (sheet_after R t h) (sumℤ claim_pence (answers_to m t h)) (Call.Claim with [])) (Refused n)) e in
-    let rest = b.claimed (answers_to m t h) _ _ (replies-last m.step m.answer (m.start t) h (Call.Claim with []) ∙ ap (λ (a : Answer). answers_to m t h ++ (a ∷ [])) says) in
-    (rest.0, b.total ∙ ap (Totalled (due_sheet R (sheet_after R t (h ++ ((Call.Claim with []) ∷ []))))) rest.1, rest.2)
+    let says : m.answer (state_after m t h) (Call.Claim with []) ≡ Ok (accepted_answer R (sheet_after R t h) (sumℤ claim_pence (answers_to m t h)) (Call.Claim with []))
+    = answers t o h (Call.Claim with []) ∙ ap (λ (n : ℕ). unless_refused n (Ok (accepted_answer R (sheet_after R t h) (sumℤ claim_pence (answers_to m t h)) (Call.Claim with []))) (Err n)) e in
+    let rest = b.claimed (answers_to m t h) _ _ (replies-last m.step m.answer (m.start t) h (Call.Claim with []) ∙ ap (λ (a : Result Answer ℕ). answers_to m t h ++ (a ∷ [])) says) in
+    (rest.0, b.total ∙ ap (λ (u : ℤ). Ok (Totalled (due_sheet R (sheet_after R t (h ++ ((Call.Claim with []) ∷ [])))) u)) rest.1, rest.2)

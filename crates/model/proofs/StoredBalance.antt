@@ -1,4 +1,5 @@
 -- A well-formed ledger that balances with the answers to its earlier calls goes on balancing, whatever calls follow. Assumes nothing.
+use Rattle.std.specs.Prelude.{Result, Ok}
 use mathlib.Core.Path.{◌≡◌, refl, sym, ap, ◌∙◌}
 use mathlib.Core.Bool.{true, cond}
 use mathlib.Core.List.{List, [], ◌∷◌, ◌++◌, append-nil}
@@ -81,10 +82,10 @@ last-of-second (x ∷ []) y ys [] z e = let n : ◌≡◌ {A = ℕ} 0 1 = cc in 
 last-of-second (x ∷ w ∷ xs) y ys [] z e = let n : ◌≡◌ {A = ℕ} 0 1 = cc in let f : ⊥ = omega arith in absurd f
 last-of-second (x ∷ xs) y ys (w ∷ zs) z e = last-of-second xs y ys zs z (cc)
 
-module _ (R : Rules) (ok : RulesLaws R) (l : Ledger) (w : WellFormed R l) (earlier : List Answer) (b : BalancedIn R (ledger_machine R) l (sheet_of l) earlier) where
+module _ (R : Rules) (ok : RulesLaws R) (l : Ledger) (w : WellFormed R l) (earlier : List (Result Answer ℕ)) (b : BalancedIn R (ledger_machine R) l (sheet_of l) earlier) where
   -- the unclaimed amount is due less a penny's ticks times the pence held
   unclaimed : b.unclaimed ≡ sub_ℕ (due l) (ticks_per_penny * l.pence)
-  unclaimed = let e : Totalled (Sheet.due R (sheet_of l)) b.unclaimed ≡ Totalled (due l) (sub_ℕ (due l) (ticks_per_penny * l.pence)) = sym b.total ∙ total-says R ok l in cc
+  unclaimed = let e : Ok (Totalled (Sheet.due R (sheet_of l)) b.unclaimed) ≡ Ok (Totalled (due l) (sub_ℕ (due l) (ticks_per_penny * l.pence))) = sym b.total ∙ total-says R ok l in cc
 
   due-split : pos (due l) ≡ pos (ticks_per_penny * l.pence) +ℤ b.unclaimed
   due-split = reset (ticks_per_penny * l.pence) (due l) ∙ ap (λ (z : ℤ). pos (ticks_per_penny * l.pence) +ℤ z) (sym unclaimed)
@@ -99,16 +100,16 @@ module _ (R : Rules) (ok : RulesLaws R) (l : Ledger) (w : WellFormed R l) (earli
       times-pos _ l.pence (sym (+ℤ-neg_ℤ_cancel p b.unclaimed) ∙ ap (λ (z : ℤ). z -ℤ b.unclaimed) e ∙ +ℤ-neg_ℤ_cancel (pos (ticks_per_penny * l.pence)) b.unclaimed)
 
   -- after an accepted claim the pence are the floor
-  earlier-floor : (before : List Answer) (p : ℤ) (rest : ℕ) → earlier ≡ before ++ (Claimed p rest ∷ []) → l.pence ≡ due l / ticks_per_penny
+  earlier-floor : (before : List (Result Answer ℕ)) (p : ℤ) (rest : ℕ) → earlier ≡ before ++ (Ok (Claimed p rest) ∷ []) → l.pence ≡ due l / ticks_per_penny
   earlier-floor before p rest e =
       let u = b.claimed before p rest e in
       let f : pos (due l) ≡ pos (ticks_per_penny * l.pence + u.0) = due-split ∙ ap (λ (z : ℤ). pos (ticks_per_penny * l.pence) +ℤ z) u.1 in
       let g : due l ≡ ticks_per_penny * l.pence + u.0 = cc in
       omega (arith, u.2)
 
-  floor-after : (h : List CallWithBook) (before : List Answer) (p : ℤ) (rest : ℕ) → earlier ++ replies (step R) (answer R) l h ≡ before ++ (Claimed p rest ∷ []) → (run (step R) l h).pence ≡ due (run (step R) l h) / ticks_per_penny
+  floor-after : (h : List CallWithBook) (before : List (Result Answer ℕ)) (p : ℤ) (rest : ℕ) → earlier ++ replies (step R) (answer R) l h ≡ before ++ (Ok (Claimed p rest) ∷ []) → (run (step R) l h).pence ≡ due (run (step R) l h) / ticks_per_penny
   floor-after [] before p rest e = earlier-floor before p rest (sym (append-nil earlier) ∙ e)
-  floor-after (c ∷ h) before p rest e = let t = last-of-second earlier _ _ before (Claimed p rest) e in last_claim R ok (c ∷ h) l t.0 p rest t.1
+  floor-after (c ∷ h) before p rest e = let t = last-of-second earlier _ _ before (Ok (Claimed p rest)) e in last_claim R ok (c ∷ h) l t.0 p rest t.1
 
 pub stored-balance-goes-on : (R : Rules) → RulesLaws R → StoredBalanceGoesOn R (ledger_machine R) (WellFormed R)
 stored-balance-goes-on R ok l w earlier b h =

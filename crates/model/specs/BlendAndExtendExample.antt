@@ -1,8 +1,8 @@
 -- Document 02, paper 5: the guidance's three illustrations of "Blend and Extend", as a history of a Great Britain ledger, and its answers.
 -- Assumes nothing.
-use Rattle.std.specs.Prelude.{◌≡◌, List, [], ◌∷◌, ◌++◌, map, ℕ, pos, replicate}
+use Rattle.std.specs.Prelude.{◌≡◌, List, [], ◌∷◌, ◌++◌, map, ℕ, pos, replicate, Result, Ok, Err}
 use Rattle.model.specs.declared.Answer.{Answer}
-use Rattle.model.specs.declared.Answer.TheVariants.{Refused, Done, Billed, Certified, Claimed, Totalled}
+use Rattle.model.specs.declared.Answer.TheVariants.{Done, Billed, Certified, Claimed, Totalled}
 use Rattle.model.specs.declared.Call.{Call}
 use Rattle.model.specs.Calls.{CallWithBook, ◌with◌, request_of}
 use Rattle.model.specs.PresentRules.{present_rules}
@@ -48,33 +48,33 @@ blend_calls = map (λ c. c with blend_book) (
 -- until the original end the base discount is the original contract's, 45,000 − 30,200 mils: in May the maximum, 1,961, is the least; from June on
 -- it is the maximum (1), nothing (2), 31,200 − 30,200 (3). After it, by the price of day 540, 31,200 − 30,200. ETII: 3 × 1,961 + 7 × 8,900 and
 -- 3 × 1,000 + 7 × 8,900 ticks. QHS: 50,000 − 34,000, and with the new minimum 50,000 − 28,240
-unfoldable pub blend_answers : List Answer
+unfoldable pub blend_answers : List (Result Answer ℕ)
 blend_answers =
-    Done
-    ∷ Billed 45000 19610 19610000
-    ∷ Done
-    ∷ Billed 45000 19610 19610000
-    ∷ Done
-    ∷ Billed 45000 19610 19610000
-    ∷ Done
-    ∷ Billed 45000 0 0
-    ∷ Done
-    ∷ Billed 45000 19610 19610000
-    ∷ Done
-    ∷ Billed 45000 10000 10000000
-    ∷ Refused 17
-    ∷ Billed 31200 10000 10000000
-    ∷ Refused 16
-    ∷ Claimed (pos 9844) 0
-    ∷ Certified (pos 103873000) 2
-    ∷ Refused 16
-    ∷ Done
-    ∷ Certified (pos 0) 0
-    ∷ Billed 45000 160000 160000000
-    ∷ Refused 18
-    ∷ Done
-    ∷ Billed 40000 217600 217600000
-    ∷ Totalled 579913000 (pos 481473000)
+    Ok Done
+    ∷ Ok (Billed 45000 19610 19610000)
+    ∷ Ok Done
+    ∷ Ok (Billed 45000 19610 19610000)
+    ∷ Ok Done
+    ∷ Ok (Billed 45000 19610 19610000)
+    ∷ Ok Done
+    ∷ Ok (Billed 45000 0 0)
+    ∷ Ok Done
+    ∷ Ok (Billed 45000 19610 19610000)
+    ∷ Ok Done
+    ∷ Ok (Billed 45000 10000 10000000)
+    ∷ Err 17
+    ∷ Ok (Billed 31200 10000 10000000)
+    ∷ Err 16
+    ∷ Ok (Claimed (pos 9844) 0)
+    ∷ Ok (Certified (pos 103873000) 2)
+    ∷ Err 16
+    ∷ Ok Done
+    ∷ Ok (Certified (pos 0) 0)
+    ∷ Ok (Billed 45000 160000 160000000)
+    ∷ Err 18
+    ∷ Ok Done
+    ∷ Ok (Billed 40000 217600 217600000)
+    ∷ Ok (Totalled 579913000 (pos 481473000))
     ∷ []
 
 abbrev pub BlendAndExtendExample : Type 0

@@ -1,12 +1,12 @@
 -- Document 01, "Calls", with paper 5's amend: the calls of a history, what they answer, and what the refusals read. Assumes nothing.
-use Rattle.std.specs.Prelude.{Bool, cond, ◌&&◌, List, [], ◌∷◌, ℕ, zero, suc, leb, ltb, eqb, ℤ, pos, length}
+use Rattle.std.specs.Prelude.{Bool, cond, ◌&&◌, List, [], ◌∷◌, ℕ, zero, suc, leb, ltb, eqb, ℤ, pos, length, Result, Ok, Err}
 use Rattle.rates.specs.declared.Contract.{Contract}
 use Rattle.rates.specs.TermsTaken.{terms_for}
 use Rattle.amounts.specs.declared.Bill.{Bill}
 use Rattle.model.specs.declared.Request.{Request}
 use Rattle.model.specs.declared.Call.{Call}
 use Rattle.model.specs.declared.Answer.{Answer}
-use Rattle.model.specs.declared.Answer.TheVariants.{Refused, Done, Billed, Rebilled, Certified, Cancelled, Claimed, Reported, Totalled}
+use Rattle.model.specs.declared.Answer.TheVariants.{Done, Billed, Rebilled, Certified, Cancelled, Claimed, Reported, Totalled}
 use Rattle.model.specs.declared.Reply.{Reply}
 use Rattle.model.specs.OpenContracts.{Contracts, contract_at}
 use Rattle.model.specs.Book.{reference}
@@ -23,21 +23,8 @@ request_of contract first last kwh supply wap etii qhs =
 
 -- ---- answers
 
--- the paper's number of an answer: that of the refusal, 0 where the call is accepted
-abbrev pub refusal_number : Answer → ℕ
-refusal_number (Refused n) = n
-refusal_number Done = 0
-refusal_number (Billed r rate amount) = 0
-refusal_number (Rebilled r rate change) = 0
-refusal_number (Certified change rows) = 0
-refusal_number (Cancelled change) = 0
-refusal_number (Claimed pence rest) = 0
-refusal_number (Reported rows kwh due) = 0
-refusal_number (Totalled due unclaimed) = 0
-
--- the paper's values of an answer, in its order: a refusal has none
+-- the paper's values of an accepted call's answer, in its order
 abbrev pub values_of : Answer → List ℤ
-values_of (Refused n) = []
 values_of Done = []
 values_of (Billed r rate amount) = pos r ∷ pos rate ∷ pos amount ∷ []
 values_of (Rebilled r rate change) = pos r ∷ pos rate ∷ change ∷ []
@@ -61,36 +48,38 @@ padded (suc n) (v ∷ vs) = v ∷ padded n vs
 abbrev pub reply_of_values : ℕ → List ℤ → Reply
 reply_of_values n vs = record { refused = n; count = length vs; numbers = padded answer_numbers vs }
 
--- the reply of an answer; and one without numbers: a refusal by its number, which is 0 where nothing is answered but ok
-abbrev pub reply_of : Answer → Reply
-reply_of a = reply_of_values (refusal_number a) (values_of a)
-
+-- the reply without numbers: a refusal by its number, which is 0 where nothing is answered but ok
 abbrev pub reply_without_numbers : ℕ → Reply
 reply_without_numbers n = reply_of_values n []
 
+-- the reply of a call: of an accepted one the number 0 and the values, of a refused one its number and no values
+abbrev pub reply_of : Result Answer ℕ → Reply
+reply_of (Ok a) = reply_of_values 0 (values_of a)
+reply_of (Err n) = reply_without_numbers n
+
 -- the customer's signed amount: the amount of bill, and the differences of rebill, cert and cancel, zero where refused
-abbrev pub customer_amount : Answer → ℤ
-customer_amount (Refused n) = pos 0
-customer_amount Done = pos 0
-customer_amount (Billed r rate amount) = pos amount
-customer_amount (Rebilled r rate change) = change
-customer_amount (Certified change rows) = change
-customer_amount (Cancelled change) = change
-customer_amount (Claimed pence rest) = pos 0
-customer_amount (Reported rows kwh due) = pos 0
-customer_amount (Totalled due unclaimed) = pos 0
+abbrev pub customer_amount : Result Answer ℕ → ℤ
+customer_amount (Err n) = pos 0
+customer_amount (Ok Done) = pos 0
+customer_amount (Ok (Billed r rate amount)) = pos amount
+customer_amount (Ok (Rebilled r rate change)) = change
+customer_amount (Ok (Certified change rows)) = change
+customer_amount (Ok (Cancelled change)) = change
+customer_amount (Ok (Claimed pence rest)) = pos 0
+customer_amount (Ok (Reported rows kwh due)) = pos 0
+customer_amount (Ok (Totalled due unclaimed)) = pos 0
 
 -- the pence that a claim answers
-abbrev pub claim_pence : Answer → ℤ
-claim_pence (Refused n) = pos 0
-claim_pence Done = pos 0
-claim_pence (Billed r rate amount) = pos 0
-claim_pence (Rebilled r rate change) = pos 0
-claim_pence (Certified change rows) = pos 0
-claim_pence (Cancelled change) = pos 0
-claim_pence (Claimed pence rest) = pence
-claim_pence (Reported rows kwh due) = pos 0
-claim_pence (Totalled due unclaimed) = pos 0
+abbrev pub claim_pence : Result Answer ℕ → ℤ
+claim_pence (Err n) = pos 0
+claim_pence (Ok Done) = pos 0
+claim_pence (Ok (Billed r rate amount)) = pos 0
+claim_pence (Ok (Rebilled r rate change)) = pos 0
+claim_pence (Ok (Certified change rows)) = pos 0
+claim_pence (Ok (Cancelled change)) = pos 0
+claim_pence (Ok (Claimed pence rest)) = pence
+claim_pence (Ok (Reported rows kwh due)) = pos 0
+claim_pence (Ok (Totalled due unclaimed)) = pos 0
 
 -- ---- what the refusals read
 

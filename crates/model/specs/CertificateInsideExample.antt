@@ -1,5 +1,5 @@
 -- Document 02, paper 3: certificates that begin inside a bill, as a history of a Great Britain ledger, and its answers. Assumes nothing.
-use Rattle.std.specs.Prelude.{◌≡◌, List, [], ◌∷◌, map, pos, neg_ℤ}
+use Rattle.std.specs.Prelude.{◌≡◌, ℕ, List, [], ◌∷◌, map, pos, neg_ℤ, Result, Ok}
 use Rattle.model.specs.declared.Answer.{Answer}
 use Rattle.model.specs.declared.Answer.TheVariants.{Done, Billed, Rebilled, Certified, Claimed, Reported, Totalled}
 use Rattle.model.specs.declared.Call.{Call}
@@ -32,23 +32,23 @@ certificate_inside_calls = map (λ c. c with zero_book) (
 
 -- 1,000 × 17,800 ticks; 333 × 17,800 + 667 × 67,640; 300 × 17,800 + 601 × 67,640; 901 × 17,800. Of 1,000 kWh in 111 days 90 are in the first 10 and
 -- 918 in the first 102: 90 × 19,610 + 828 × 160,000 + 82 × 217,600; and 1,000 × 19,610
-unfoldable pub certificate_inside_answers : List Answer
+unfoldable pub certificate_inside_answers : List (Result Answer ℕ)
 certificate_inside_answers =
-    Done
-    ∷ Billed 31980 17800 17800000
-    ∷ Claimed (pos 1780) 0
-    ∷ Certified (pos 33243280) 1
-    ∷ Claimed (pos 3324) 3280
-    ∷ Rebilled 31980 17800 (neg_ℤ (pos 5051640))
-    ∷ Certified (neg_ℤ (pos 29953840)) 1
-    ∷ Claimed (neg_ℤ (pos 3501)) 7800
-    ∷ Done
-    ∷ Certified (pos 0) 0
-    ∷ Billed 40000 19610 152088100
-    ∷ Reported 1 1000 152088100
-    ∷ Totalled 168125900 (pos 152095900)
-    ∷ Certified (neg_ℤ (pos 132478100)) 1
-    ∷ Totalled 35647800 (pos 19617800)
+    Ok Done
+    ∷ Ok (Billed 31980 17800 17800000)
+    ∷ Ok (Claimed (pos 1780) 0)
+    ∷ Ok (Certified (pos 33243280) 1)
+    ∷ Ok (Claimed (pos 3324) 3280)
+    ∷ Ok (Rebilled 31980 17800 (neg_ℤ (pos 5051640)))
+    ∷ Ok (Certified (neg_ℤ (pos 29953840)) 1)
+    ∷ Ok (Claimed (neg_ℤ (pos 3501)) 7800)
+    ∷ Ok Done
+    ∷ Ok (Certified (pos 0) 0)
+    ∷ Ok (Billed 40000 19610 152088100)
+    ∷ Ok (Reported 1 1000 152088100)
+    ∷ Ok (Totalled 168125900 (pos 152095900))
+    ∷ Ok (Certified (neg_ℤ (pos 132478100)) 1)
+    ∷ Ok (Totalled 35647800 (pos 19617800))
     ∷ []
 
 abbrev pub CertificateInsideExample : Type 0

@@ -1,6 +1,5 @@
 -- A ledger kept in a format: what a call on its bytes answers and leaves, for any bytes. Assumes nothing.
-use Rattle.std.specs.Prelude.{◌≡◌, Bool, true, cond}
-use Rattle.model.specs.declared.Answer.TheVariants.{Refused}
+use Rattle.std.specs.Prelude.{◌≡◌, Bool, true, cond, Err}
 use Rattle.model.specs.Rules.{Rules, refusal, unless_refused}
 use Rattle.model.specs.Ledger.{Ledger, fresh, view, step, answer}
 use Rattle.model.specs.WellFormed.{WellFormed}
@@ -19,7 +18,7 @@ bytes_machine R f = record {
   State = f.Bytes;
   start = λ t. f.pack (fresh t);
   step = λ b c. cond (f.is_well_formed b) (unless_refused (refusal R (view (f.unpack b)) c) (f.pack (step R (f.unpack b) c)) b) b;
-  answer = λ b c. cond (f.is_well_formed b) (answer R (f.unpack b) c) (Refused 2);
+  answer = λ b c. cond (f.is_well_formed b) (answer R (f.unpack b) c) (Err 2);
   facts = f.unpack;
 }
 

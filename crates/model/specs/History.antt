@@ -1,5 +1,5 @@
 -- A history: a list of calls, run from a fresh ledger by a machine and on a blank sheet. Assumes nothing.
-use Rattle.std.specs.Prelude.{List, [], ◌∷◌, ℕ}
+use Rattle.std.specs.Prelude.{List, [], ◌∷◌, ℕ, Result}
 use Rattle.model.specs.declared.Answer.{Answer}
 use Rattle.model.specs.Calls.{CallWithBook}
 use Rattle.model.specs.Rules.{Rules}
@@ -27,13 +27,13 @@ pub record Machine : Type 1 where
   pub State : Type 0
   pub start : (territory : ℕ) → State
   pub step : State → CallWithBook → State
-  pub answer : State → CallWithBook → Answer
+  pub answer : State → CallWithBook → Result Answer ℕ
   pub facts : State → Ledger
 
 unfoldable pub state_after : (m : Machine) → (territory : ℕ) → List CallWithBook → m.State
 state_after m t h = run m.step (m.start t) h
 
-unfoldable pub answers_to : Machine → (territory : ℕ) → List CallWithBook → List Answer
+unfoldable pub answers_to : Machine → (territory : ℕ) → List CallWithBook → List (Result Answer ℕ)
 answers_to m t h = replies m.step m.answer (m.start t) h
 
 -- the machine that keeps the ledger's facts as they are

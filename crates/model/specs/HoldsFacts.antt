@@ -1,5 +1,5 @@
 -- Demand 2: the ledger holds exactly the accepted facts, after every history. Assumes nothing.
-use Rattle.std.specs.Prelude.{◌≡◌, Bool, ℕ, ◌≤◌, pos}
+use Rattle.std.specs.Prelude.{◌≡◌, Bool, ℕ, ◌≤◌, pos, Result}
 use mathlib.Core.List.{List, Memᴰ}
 use Rattle.basics.specs.Lists.{count}
 use Rattle.basics.specs.Integers.{sumℤ}
@@ -12,7 +12,7 @@ use Rattle.model.specs.Sheet.{Sheet}
 use Rattle.model.specs.History.{Machine, sheet_after, state_after, answers_to}
 
 -- what the sheet after a history, and the answers to its calls, say of the facts held
-pub record HoldsFacts (R : Rules) (sheet : Sheet) (answered : List Answer) (facts : Ledger) : Type 0 where
+pub record HoldsFacts (R : Rules) (sheet : Sheet) (answered : List (Result Answer ℕ)) (facts : Ledger) : Type 0 where
   pub territory : facts.territory ≡ sheet.territory
   -- the open contracts with their certificates
   pub contracts : facts.contracts ≡ sheet.contracts

@@ -1,6 +1,6 @@
 -- Document 02, paper 1: two months of a landlord's meter with an ETII and a QHS tenant, as a history of a Great Britain ledger, and its
 -- answers. Assumes nothing.
-use Rattle.std.specs.Prelude.{◌≡◌, List, [], ◌∷◌, map, pos, neg_ℤ}
+use Rattle.std.specs.Prelude.{◌≡◌, ℕ, List, [], ◌∷◌, map, pos, neg_ℤ, Result, Ok}
 use Rattle.model.specs.declared.Answer.{Answer}
 use Rattle.model.specs.declared.Answer.TheVariants.{Done, Billed, Rebilled, Certified, Claimed, Reported, Totalled}
 use Rattle.model.specs.declared.Call.{Call}
@@ -27,19 +27,19 @@ landlord_calls = map (λ c. c with zero_book) (
     ∷ [])
 
 -- 250 × 19,610 + 400 × 68,183 + 350 × 160,000 ticks, then 350 × 217,600; 300, 480 and 420 kWh; 1,000 × 68,183
-unfoldable pub landlord_answers : List Answer
+unfoldable pub landlord_answers : List (Result Answer ℕ)
 landlord_answers =
-    Done
-    ∷ Billed 40000 19610 88175700
-    ∷ Billed 40000 19610 108335700
-    ∷ Claimed (pos 19651) 1400
-    ∷ Certified (pos 0) 0
-    ∷ Totalled 196511400 (pos 1400)
-    ∷ Rebilled 40000 19610 (pos 17635140)
-    ∷ Claimed (pos 1763) 6540
-    ∷ Rebilled 40000 68183 (neg_ℤ (pos 40152700))
-    ∷ Claimed (neg_ℤ (pos 4015)) 3840
-    ∷ Reported 2 2200 173993840
+    Ok Done
+    ∷ Ok (Billed 40000 19610 88175700)
+    ∷ Ok (Billed 40000 19610 108335700)
+    ∷ Ok (Claimed (pos 19651) 1400)
+    ∷ Ok (Certified (pos 0) 0)
+    ∷ Ok (Totalled 196511400 (pos 1400))
+    ∷ Ok (Rebilled 40000 19610 (pos 17635140))
+    ∷ Ok (Claimed (pos 1763) 6540)
+    ∷ Ok (Rebilled 40000 68183 (neg_ℤ (pos 40152700)))
+    ∷ Ok (Claimed (neg_ℤ (pos 4015)) 3840)
+    ∷ Ok (Reported 2 2200 173993840)
     ∷ []
 
 abbrev pub LandlordExample : Type 0

@@ -1,5 +1,5 @@
 -- Document 01, "The packed ledger" and "Calls", with paper 5's amend: the ledger's facts, and what each call answers and leaves. Assumes nothing.
-use Rattle.std.specs.Prelude.{Bool, not, cond, ◌&&◌, ◌||◌, List, [], ◌∷◌, map, ℕ, suc, ◌*◌, ◌/◌, ◌%◌, ltb, eqb}
+use Rattle.std.specs.Prelude.{Bool, not, cond, ◌&&◌, ◌||◌, List, [], ◌∷◌, map, ℕ, suc, ◌*◌, ◌/◌, ◌%◌, ltb, eqb, Result, Ok, Err}
 use Rattle.std.proofs.Math.IntN.{sub_ℕ}
 use Rattle.limits.specs.Limits.{ticks_per_penny}
 use Rattle.basics.specs.Lists.{total, count}
@@ -7,7 +7,7 @@ use Rattle.rates.specs.declared.Contract.{Contract}
 use Rattle.amounts.specs.declared.Bill.{Bill}
 use Rattle.model.specs.declared.Row.{Row}
 use Rattle.model.specs.declared.Answer.{Answer}
-use Rattle.model.specs.declared.Answer.TheVariants.{Refused, Done, Billed, Rebilled, Certified, Cancelled, Claimed, Reported, Totalled}
+use Rattle.model.specs.declared.Answer.TheVariants.{Done, Billed, Rebilled, Certified, Cancelled, Claimed, Reported, Totalled}
 use Rattle.model.specs.Codes.{opening, certify, amend}
 use Rattle.model.specs.OpenContracts.{Contracts, no_contracts, contract_at, put_contract}
 use Rattle.model.specs.declared.Call.{Call}
@@ -72,7 +72,7 @@ due l = total (λ x. x.amount) l.rows
 
 pub record Outcome : Type 0 where
   pub next : Ledger
-  pub answers : Answer
+  pub answers : Result Answer ℕ
 
 abbrev pub ledger_with_rows : Ledger → List Row → Ledger
 ledger_with_rows l xs = record { territory = l.territory; contracts = l.contracts; rows = xs; claims = l.claims; pence = l.pence }
@@ -82,7 +82,7 @@ with_contract l c k = record { territory = l.territory; contracts = put_contract
 
 -- a refused call answers its number and leaves the ledger as it was
 abbrev pub outcome_turned_down : Ledger → (refusal : ℕ) → Outcome
-outcome_turned_down l n = record { next = l; answers = Refused n }
+outcome_turned_down l n = record { next = l; answers = Err n }
 
 module _ (R : Rules) where
   -- a row with its amount under the contract
@@ -95,38 +95,38 @@ module _ (R : Rules) where
 
   -- what each call leaves and answers where nothing turns it down
   unfoldable pub accept : Ledger → CallWithBook → Outcome
-  accept l (Call.Open c fuel kind fix entry with book) = record { next = with_contract l c (opening fuel kind fix entry); answers = Done }
+  accept l (Call.Open c fuel kind fix entry with book) = record { next = with_contract l c (opening fuel kind fix entry); answers = Ok Done }
   accept l (Call.Bill q with book) =
       let k = contract_at l.contracts q.contract in
       let b = requested_bill l.contracts q book in
-      record { next = ledger_with_rows l (insert (priced k b) l.rows); answers = Billed b.reference (R.rate k b) (priced k b).amount }
+      record { next = ledger_with_rows l (insert (priced k b) l.rows); answers = Ok (Billed b.reference (R.rate k b) (priced k b).amount) }
   accept l (Call.Rebill q with book) =
       let k = contract_at l.contracts q.contract in
       let b = requested_bill l.contracts q book in
       let p = named q.contract q.first in
       record {
         next = ledger_with_rows l (replace p (priced k b) l.rows);
-        answers = Rebilled b.reference (R.rate k b) (sub_ℕ (priced k b).amount (amount_of p l.rows));
+        answers = Ok (Rebilled b.reference (R.rate k b) (sub_ℕ (priced k b).amount (amount_of p l.rows)));
       }
   accept l (Call.Cert c class effective with book) =
       let k = certify (contract_at l.contracts c) class effective in
       let xs = map (rerated c k) l.rows in
       record {
         next = with_contract (ledger_with_rows l xs) c k;
-        answers = Certified (sub_ℕ (total (λ x. x.amount) xs) (due l)) (count (λ x. not (eqb (rerated c k x).amount x.amount)) l.rows);
+        answers = Ok (Certified (sub_ℕ (total (λ x. x.amount) xs) (due l)) (count (λ x. not (eqb (rerated c k x).amount x.amount)) l.rows));
       }
   accept l (Call.Cancel c first with book) =
-      record { next = ledger_with_rows l (remove (named c first) l.rows); answers = Cancelled (sub_ℕ 0 (amount_of (named c first) l.rows)) }
+      record { next = ledger_with_rows l (remove (named c first) l.rows); answers = Ok (Cancelled (sub_ℕ 0 (amount_of (named c first) l.rows))) }
   accept l (Call.Claim with book) = record {
     next = record { territory = l.territory; contracts = l.contracts; rows = l.rows; claims = suc l.claims; pence = due l / ticks_per_penny };
-    answers = Claimed (sub_ℕ (due l / ticks_per_penny) l.pence) (due l % ticks_per_penny);
+    answers = Ok (Claimed (sub_ℕ (due l / ticks_per_penny) l.pence) (due l % ticks_per_penny));
   }
   accept l (Call.Report c with book) = record {
     next = l;
-    answers = Reported (count (of_contract c) l.rows) (total (λ x. cond (of_contract c x) x.bill.kwh 0) l.rows) (total (λ x. cond (of_contract c x) x.amount 0) l.rows);
+    answers = Ok (Reported (count (of_contract c) l.rows) (total (λ x. cond (of_contract c x) x.bill.kwh 0) l.rows) (total (λ x. cond (of_contract c x) x.amount 0) l.rows));
   }
-  accept l (Call.Total with book) = record { next = l; answers = Totalled (due l) (sub_ℕ (due l) (ticks_per_penny * l.pence)) }
-  accept l (Call.Amend c end fix entry with book) = record { next = with_contract l c (amend (contract_at l.contracts c) end fix entry); answers = Done }
+  accept l (Call.Total with book) = record { next = l; answers = Ok (Totalled (due l) (sub_ℕ (due l) (ticks_per_penny * l.pence))) }
+  accept l (Call.Amend c end fix entry with book) = record { next = with_contract l c (amend (contract_at l.contracts c) end fix entry); answers = Ok Done }
 
   unfoldable pub outcome : Ledger → CallWithBook → Outcome
   outcome l c = let n = refusal R (view l) c in unless_refused n (accept l c) (outcome_turned_down l n)
@@ -135,5 +135,5 @@ module _ (R : Rules) where
   unfoldable pub step : Ledger → CallWithBook → Ledger
   step l c = (outcome l c).next
 
-  unfoldable pub answer : Ledger → CallWithBook → Answer
+  unfoldable pub answer : Ledger → CallWithBook → Result Answer ℕ
   answer l c = (outcome l c).answers

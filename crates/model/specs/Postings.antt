@@ -1,11 +1,11 @@
 -- Document 00: the posting module that the ledger replaces. It "writes each bill, reversal and reissue as a posting and adds them up";
 -- the discount per kWh, the signed amount for the customer and the pence of each claim must stay equal. Assumes nothing.
-use Rattle.std.specs.Prelude.{◌≡◌, Bool, not, List, [], ◌∷◌, ◌++◌, map, ℕ, ◌/◌, ◌<◌, ◌≤◌, eqb, ℤ, pos, negsuc, neg_ℤ, ◌+ℤ◌, ◌-ℤ◌, ◌*ℤ◌}
+use Rattle.std.specs.Prelude.{◌≡◌, Bool, not, List, [], ◌∷◌, ◌++◌, map, ℕ, ◌/◌, ◌<◌, ◌≤◌, eqb, ℤ, pos, negsuc, neg_ℤ, ◌+ℤ◌, ◌-ℤ◌, ◌*ℤ◌, Result, Ok, Err}
 use Rattle.limits.specs.Limits.{ticks_per_penny}
 use Rattle.basics.specs.Integers.{sumℤ}
 use Rattle.amounts.specs.declared.Bill.{Bill}
 use Rattle.model.specs.declared.Answer.{Answer}
-use Rattle.model.specs.declared.Answer.TheVariants.{Refused, Done, Billed, Rebilled, Certified, Cancelled, Claimed, Reported, Totalled}
+use Rattle.model.specs.declared.Answer.TheVariants.{Done, Billed, Rebilled, Certified, Cancelled, Claimed, Reported, Totalled}
 use Rattle.model.specs.Codes.{certify}
 use Rattle.model.specs.OpenContracts.{Contracts, contract_at, put_contract}
 use Rattle.model.specs.declared.Call.{Call}
@@ -26,18 +26,18 @@ no_figures = record { rate = 0; customer = pos 0; pence = pos 0 }
 
 -- ---- the ledger's answers
 
-abbrev pub answered_rate : Answer → ℕ
-answered_rate (Refused n) = 0
-answered_rate Done = 0
-answered_rate (Billed r rate amount) = rate
-answered_rate (Rebilled r rate change) = rate
-answered_rate (Certified change rows) = 0
-answered_rate (Cancelled change) = 0
-answered_rate (Claimed pence rest) = 0
-answered_rate (Reported rows kwh due) = 0
-answered_rate (Totalled due unclaimed) = 0
+abbrev pub answered_rate : Result Answer ℕ → ℕ
+answered_rate (Err n) = 0
+answered_rate (Ok Done) = 0
+answered_rate (Ok (Billed r rate amount)) = rate
+answered_rate (Ok (Rebilled r rate change)) = rate
+answered_rate (Ok (Certified change rows)) = 0
+answered_rate (Ok (Cancelled change)) = 0
+answered_rate (Ok (Claimed pence rest)) = 0
+answered_rate (Ok (Reported rows kwh due)) = 0
+answered_rate (Ok (Totalled due unclaimed)) = 0
 
-unfoldable pub answered_figures : Answer → Figures
+unfoldable pub answered_figures : Result Answer ℕ → Figures
 answered_figures a = record { rate = answered_rate a; customer = customer_amount a; pence = claim_pence a }
 
 -- ---- the posting module

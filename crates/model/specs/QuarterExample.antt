@@ -1,9 +1,9 @@
 -- Document 02, paper 2: "Rows already stored stand with the price they hold, remain well formed, and still take certificates and
 -- cancellation." Two quarters that were stored under April's price, and calls on them with their answers. Assumes nothing.
-use Rattle.std.specs.Prelude.{◌≡◌, List, [], ◌∷◌, ◌++◌, map, ℕ, pos, neg_ℤ, replicate}
+use Rattle.std.specs.Prelude.{◌≡◌, List, [], ◌∷◌, ◌++◌, map, ℕ, pos, neg_ℤ, replicate, Result, Ok, Err}
 use Rattle.model.specs.declared.Row.{Row}
 use Rattle.model.specs.declared.Answer.{Answer}
-use Rattle.model.specs.declared.Answer.TheVariants.{Refused, Billed, Rebilled, Certified, Cancelled, Claimed, Reported, Totalled}
+use Rattle.model.specs.declared.Answer.TheVariants.{Billed, Rebilled, Certified, Cancelled, Claimed, Reported, Totalled}
 use Rattle.model.specs.declared.Call.{Call}
 use Rattle.model.specs.Calls.{CallWithBook, ◌with◌, request_of}
 use Rattle.model.specs.PresentRules.{present_rules}
@@ -26,8 +26,8 @@ unfoldable pub stored_quarters : Ledger
 stored_quarters = ledger_with_rows (state_after (ledger_machine present_rules) 1 openings) (quarter_row 5 3000 11050 20000 10500000 ∷ quarter_row 6 2000 32000 60000 36000000 ∷ [])
 
 -- what was answered to the two bills: R, rate and amount (the two contracts' openings answered no numbers)
-abbrev pub earlier_answers : List Answer
-earlier_answers = Billed 11050 3500 10500000 ∷ Billed 32000 18000 36000000 ∷ []
+abbrev pub earlier_answers : List (Result Answer ℕ)
+earlier_answers = Ok (Billed 11050 3500 10500000) ∷ Ok (Billed 32000 18000 36000000) ∷ []
 
 -- the gas prices of April, May and June 2023 are 11,050, 10,900 and 12,000 mils
 unfoldable pub quarter_book : List ℕ
@@ -51,19 +51,19 @@ quarter_calls = map (λ c. c with quarter_book) (
     ∷ [])
 
 -- ETII rates: 3 × 350 + 7 × 1,150, 3 × 200 + 7 × 1,000 and 3 × 697 + 7 × 2,100 ticks
-unfoldable pub quarter_answers : List Answer
+unfoldable pub quarter_answers : List (Result Answer ℕ)
 quarter_answers =
-    Certified (pos 16800000) 1
-    ∷ Reported 1 3000 27300000
-    ∷ Claimed (pos 6330) 0
-    ∷ Refused 15
-    ∷ Refused 15
-    ∷ Rebilled 11050 9100 (neg_ℤ (pos 18200000))
-    ∷ Billed 10900 7600 7600000
-    ∷ Billed 12000 16791 16791000
-    ∷ Refused 15
-    ∷ Cancelled (neg_ℤ (pos 36000000))
-    ∷ Totalled 33491000 (neg_ℤ (pos 29809000))
+    Ok (Certified (pos 16800000) 1)
+    ∷ Ok (Reported 1 3000 27300000)
+    ∷ Ok (Claimed (pos 6330) 0)
+    ∷ Err 15
+    ∷ Err 15
+    ∷ Ok (Rebilled 11050 9100 (neg_ℤ (pos 18200000)))
+    ∷ Ok (Billed 10900 7600 7600000)
+    ∷ Ok (Billed 12000 16791 16791000)
+    ∷ Err 15
+    ∷ Ok (Cancelled (neg_ℤ (pos 36000000)))
+    ∷ Ok (Totalled 33491000 (neg_ℤ (pos 29809000)))
     ∷ []
 
 pub record QuarterExample : Type 0 where

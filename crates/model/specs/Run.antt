@@ -1,9 +1,9 @@
 -- Document 01, "The program and one run", with both shares given as 0: the run's ten calls as a history of a Great Britain ledger, and its
 -- ten answers. Assumes nothing.
-use Rattle.std.specs.Prelude.{◌≡◌, List, [], ◌∷◌, map, ℕ, replicate, pos, neg_ℤ}
+use Rattle.std.specs.Prelude.{◌≡◌, List, [], ◌∷◌, map, ℕ, replicate, pos, neg_ℤ, Result, Ok, Err}
 use Rattle.limits.specs.Limits.{book_length}
 use Rattle.model.specs.declared.Answer.{Answer}
-use Rattle.model.specs.declared.Answer.TheVariants.{Refused, Done, Billed, Rebilled, Certified, Cancelled, Claimed, Totalled}
+use Rattle.model.specs.declared.Answer.TheVariants.{Done, Billed, Rebilled, Certified, Cancelled, Claimed, Totalled}
 use Rattle.model.specs.declared.Call.{Call}
 use Rattle.model.specs.Calls.{CallWithBook, ◌with◌, request_of}
 use Rattle.model.specs.PresentRules.{present_rules}
@@ -28,18 +28,18 @@ run_calls = map (λ c. c with zero_book) (
     ∷ Call.Bill (request_of 64 486 515 1 1 1 0 0)
     ∷ [])
 
-unfoldable pub run_answers : List Answer
+unfoldable pub run_answers : List (Result Answer ℕ)
 run_answers =
-    Done
-    ∷ Billed 31980 17800 17800000
-    ∷ Claimed (pos 1780) 0
-    ∷ Certified (pos 49840000) 1
-    ∷ Claimed (pos 4984) 0
-    ∷ Rebilled 31980 67640 (neg_ℤ (pos 6696360))
-    ∷ Claimed (neg_ℤ (pos 670)) 3640
-    ∷ Cancelled (neg_ℤ (pos 60943640))
-    ∷ Totalled 0 (neg_ℤ (pos 60940000))
-    ∷ Refused 4
+    Ok Done
+    ∷ Ok (Billed 31980 17800 17800000)
+    ∷ Ok (Claimed (pos 1780) 0)
+    ∷ Ok (Certified (pos 49840000) 1)
+    ∷ Ok (Claimed (pos 4984) 0)
+    ∷ Ok (Rebilled 31980 67640 (neg_ℤ (pos 6696360)))
+    ∷ Ok (Claimed (neg_ℤ (pos 670)) 3640)
+    ∷ Ok (Cancelled (neg_ℤ (pos 60943640)))
+    ∷ Ok (Totalled 0 (neg_ℤ (pos 60940000)))
+    ∷ Err 4
     ∷ []
 
 abbrev pub TheRun : Type 0

@@ -1,12 +1,12 @@
 -- Every answer from the sheet: what a call answers by the sheet before it and the pence that the claims before it answered. It reads no
 -- row and no stored amount. Assumes nothing.
-use Rattle.std.specs.Prelude.{◌≡◌, not, cond, List, [], ◌∷◌, ◌++◌, ℕ, ◌/◌, ◌%◌, ◌<◌, ◌≤◌, eqb, ℤ, pos, ◌+ℤ◌, ◌-ℤ◌, ◌*ℤ◌}
+use Rattle.std.specs.Prelude.{◌≡◌, not, cond, List, [], ◌∷◌, ◌++◌, ℕ, ◌/◌, ◌%◌, ◌<◌, ◌≤◌, eqb, ℤ, pos, ◌+ℤ◌, ◌-ℤ◌, ◌*ℤ◌, Result, Ok, Err}
 use Rattle.std.proofs.Math.IntN.{sub_ℕ}
 use Rattle.limits.specs.Limits.{ticks_per_penny}
 use Rattle.basics.specs.Lists.{total, count}
 use Rattle.basics.specs.Integers.{sumℤ}
 use Rattle.model.specs.declared.Answer.{Answer}
-use Rattle.model.specs.declared.Answer.TheVariants.{Refused, Done, Billed, Rebilled, Certified, Cancelled, Claimed, Reported, Totalled}
+use Rattle.model.specs.declared.Answer.TheVariants.{Done, Billed, Rebilled, Certified, Cancelled, Claimed, Reported, Totalled}
 use Rattle.model.specs.OpenContracts.{contract_at}
 use Rattle.model.specs.declared.Call.{Call}
 use Rattle.model.specs.Calls.{CallWithBook, named, requested_bill, claim_pence, ◌with◌}
@@ -43,8 +43,8 @@ module _ (R : Rules) where
   accepted_answer s pence (Call.Amend c end fix entry with book) = Done
 
   -- a refused call answers its number
-  unfoldable pub sheet_answer : Sheet → (pence : ℤ) → CallWithBook → Answer
-  sheet_answer s pence c = let n = refusal R (view s) c in unless_refused n (accepted_answer s pence c) (Refused n)
+  unfoldable pub sheet_answer : Sheet → (pence : ℤ) → CallWithBook → Result Answer ℕ
+  sheet_answer s pence c = let n = refusal R (view s) c in unless_refused n (Ok (accepted_answer s pence c)) (Err n)
 
   -- of a machine: after every history, from a fresh ledger of either territory, any call
   abbrev pub EveryAnswerFromTheSheet : Machine → Type 0
@@ -60,4 +60,4 @@ module _ (R : Rules) where
   abbrev pub EveryAcceptedClaimLeavesRest : Machine → Type 0
   EveryAcceptedClaimLeavesRest m = (territory : ℕ) → territory ≤ 1 → (h : List CallWithBook) → refusal R (view (sheet_after R territory h)) (Call.Claim with []) ≡ 0 →
       let claimed = h ++ ((Call.Claim with []) ∷ []) in
-      (u : ℕ) × (m.answer (state_after m territory claimed) (Call.Total with []) ≡ Totalled (due R (sheet_after R territory claimed)) (pos u)) × (u < ticks_per_penny)
+      (u : ℕ) × (m.answer (state_after m territory claimed) (Call.Total with []) ≡ Ok (Totalled (due R (sheet_after R territory claimed)) (pos u))) × (u < ticks_per_penny)

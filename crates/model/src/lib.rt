@@ -58,10 +58,9 @@ pub enum Call {
     },
 }
 
-// What a call answers: the number of a refusal, or the call's numbers.
+// What a call answers where nothing turns it down: the call's numbers.
 #[derive(Clone, Copy)]
 pub enum Answer {
-    Refused(u32),
     Done,
     Billed {
         reference: u32,
@@ -98,8 +97,8 @@ pub enum Answer {
 // No answer has more numbers.
 pub const ANSWER_NUMBERS: usize = 3;
 
-// The reply of an answer: the number of the refusal, 0 where the call is accepted; how many numbers it has, and those in the
-// paper's order, zeros after them.
+// The reply of a call: the number of the refusal, 0 where the call is accepted; how many numbers it has, and those in the
+// paper's order, zeros after them. It is what C gets, which has no Result.
 #[derive(Clone, Copy)]
 pub struct Reply {
     pub refused: u32,

@@ -1,0 +1,2 @@
+-- The papers' numbers of the refusals.
+pub mod Numbers
