@@ -17,8 +17,7 @@ use Rattle.model.specs.Rules.{Rules}
 use Rattle.model.specs.Ledger.{due}
 use Rattle.layout.specs.Layout.{Layout, first_row, ledger_length, claims_in, pence_in, row_test, contracts_in, row_slots, comes_before, is_well_formed, ledger_of}
 use Rattle.layout.proofs.LayoutLaws.{are-test}
-use Rattle.layout.specs.declared.Checked.TheVariants.{Malformed, WellFormed}
-use Rattle.layout.specs.Check.{checked_of, header_ok, contracts_ok, rows_checked_of}
+use Rattle.layout.specs.Check.{checked_of, header_ok, contracts_ok, rows_checked_of, malformed, well_formed}
 
 -- ---- seven tests, of which the first two are met
 
@@ -45,11 +44,11 @@ module _ (p q r s t u v : Bool) (long : p ≡ true) (bytes : q ≡ true) where
       go false v = refl
 
 module _ (R : Rules) (L : Layout) (b : List ℕ) where
-  refused : is_well_formed R L b ≡ false → Malformed ≡ checked_of R L b
+  refused : is_well_formed R L b ≡ false → malformed ≡ checked_of R L b
   unfolding checked_of
   refused e = rw e
 
-  pub other_length : (length b ≡ ledger_length R L → ⊥) → Malformed ≡ checked_of R L b
+  pub other_length : (length b ≡ ledger_length R L → ⊥) → malformed ≡ checked_of R L b
   unfolding is_well_formed
   other_length n = refused (rw (no_eq (length b) (ledger_length R L) n))
 
@@ -70,11 +69,11 @@ module _ (R : Rules) (L : Layout) (b : List ℕ) where
     abbrev order_tested : Bool
     order_tested = every_pair (is_in_order comes_before) (row_slots R L b)
 
-    pub header-malformed : header_ok R L b ≡ false → Malformed ≡ checked_of R L b
+    pub header-malformed : header_ok R L b ≡ false → malformed ≡ checked_of R L b
     unfolding is_well_formed header_ok
     header-malformed e = refused (header-fails _ _ claims_tested pence_tested (contracts_ok R L b) slots_tested order_tested long (are-test b bytes) e)
 
-    pub contracts-malformed : header_ok R L b ≡ true → contracts_ok R L b ≡ false → Malformed ≡ checked_of R L b
+    pub contracts-malformed : header_ok R L b ≡ true → contracts_ok R L b ≡ false → malformed ≡ checked_of R L b
     unfolding is_well_formed header_ok
     contracts-malformed e f = refused (contracts-fail _ _ claims_tested pence_tested (contracts_ok R L b) slots_tested order_tested long (are-test b bytes) e f)
 
@@ -85,5 +84,5 @@ module _ (R : Rules) (L : Layout) (b : List ℕ) where
     pub rows-checked : header_ok R L b ≡ true → contracts_ok R L b ≡ true → rows_checked_of R L b ≡ checked_of R L b
     unfolding checked_of rows_checked_of ledger_of due
     rows-checked e f =
-        ap (λ (p : Bool). cond p (WellFormed (length (held (row_slots R L b))) (total (λ x. x.amount) (held (row_slots R L b)))) Malformed)
+        ap (λ (p : Bool). cond p (well_formed (length (held (row_slots R L b))) (total (λ x. x.amount) (held (row_slots R L b)))) malformed)
         (sym (decided e f))

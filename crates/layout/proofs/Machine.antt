@@ -1,12 +1,13 @@
 -- What a call on a packed ledger answers and leaves, over any rules and layout: malformed, refused or accepted. Assumes nothing.
+use Rattle.std.specs.Prelude.{Result, Ok, Err}
 use mathlib.Core.Path.{◌≡◌, refl, sym, ap, subst}
 use mathlib.Core.Bool.{Bool, true, false, cond}
 use mathlib.Core.List.{List}
 use Prim.Native.Nat.{ℕ, zero, suc, ◌≤◌}
 use native.Mathlib.Omega.{arith}
 use lib.ListN.{length}
+use Rattle.refusals.specs.declared.Refusal.{Refusal}
 use Rattle.model.specs.declared.Answer.{Answer}
-use Rattle.model.specs.declared.Answer.TheVariants.{Refused}
 use Rattle.model.specs.Calls.{CallWithBook}
 use Rattle.model.specs.Rules.{Rules, refusal, unless_refused}
 use Rattle.model.specs.Ledger.{Ledger, view, due, outcome_turned_down, accept, outcome, step, answer}
@@ -14,12 +15,11 @@ use Rattle.model.specs.WellFormed.{WellFormed}
 use Rattle.layout.specs.Layout.{Layout, is_well_formed, ledger_of, bytes_of, machine_of}
 use Rattle.layout.proofs.Lawful.{Lawful}
 use Rattle.layout.proofs.RoundTrips.{format-laws, repacked}
-use Rattle.layout.specs.declared.Checked.{Checked}
-use Rattle.layout.specs.declared.Checked.TheVariants.{Malformed, WellFormed as Formed}
-use Rattle.layout.specs.Check.{checked_of, Searched}
+use Rattle.layout.specs.declared.Totals.{Totals}
+use Rattle.layout.specs.Check.{checked_of, malformed, well_formed, Searched}
 
 -- what is answered and left
-pub record Answers (R : Rules) (L : Layout) (b : List ℕ) (c : CallWithBook) (a : Answer) (after : List ℕ) : Type 0 where
+pub record Answers (R : Rules) (L : Layout) (b : List ℕ) (c : CallWithBook) (a : Result Answer ℕ) (after : List ℕ) : Type 0 where
   pub answered : (machine_of R L).answer b c ≡ a
   pub left : (machine_of R L).step b c ≡ after
 
@@ -36,29 +36,29 @@ module _ {R : Rules} {L : Layout} (laws : Lawful R L) (b : List ℕ) where
   l = ledger_of R L b
 
   -- what each finding says
-  abbrev Says : Checked → Type 0
-  Says Malformed = is_well_formed R L b ≡ false
-  Says (Formed rows sum) = Sound R L b rows sum
+  abbrev Says : Result Totals Refusal → Type 0
+  Says (Err r) = is_well_formed R L b ≡ false
+  Says (Ok t) = Sound R L b t.rows t.due
 
-  check-says : {r : Checked} → r ≡ checked_of R L b → Says r
+  check-says : {r : Result Totals Refusal} → r ≡ checked_of R L b → Says r
   unfolding checked_of
   check-says {r} e = subst Says (sym e) (go (is_well_formed R L b) refl)
     where
-      go : (f : Bool) → is_well_formed R L b ≡ f → Says (cond f (Formed (length l.rows) (due l)) Malformed)
+      go : (f : Bool) → is_well_formed R L b ≡ f → Says (cond f (well_formed (length l.rows) (due l)) malformed)
       go true w = record { formed = w; count = refl; total = refl; packed = sym (repacked laws b w); facts = (format-laws laws).unpacked b w }
       go false w = w
 
-  pub check-malformed : Malformed ≡ checked_of R L b → is_well_formed R L b ≡ false
+  pub check-malformed : malformed ≡ checked_of R L b → is_well_formed R L b ≡ false
   check-malformed e = check-says e
 
-  pub check_sound : (rows sum : ℕ) → Formed rows sum ≡ checked_of R L b → Sound R L b rows sum
+  pub check_sound : (rows sum : ℕ) → well_formed rows sum ≡ checked_of R L b → Sound R L b rows sum
   check_sound rows sum e = check-says e
 
   pub searched : {rows sum : ℕ} → Sound R L b rows sum → Searched R L b rows
   searched s = record { formed = s.formed; count = s.count }
 
   module _ (c : CallWithBook) where
-    pub machine-malformed : is_well_formed R L b ≡ false → Answers R L b c (Refused 2) b
+    pub machine-malformed : is_well_formed R L b ≡ false → Answers R L b c (Err 2) b
     machine-malformed e = record { answered = rw e; left = rw e }
 
     abbrev packed : Ledger → List ℕ
@@ -73,7 +73,7 @@ module _ {R : Rules} {L : Layout} (laws : Lawful R L) (b : List ℕ) where
       left = rw e (ap (λ (k : ℕ). unless_refused k (packed (unless_refused k (accept R l c) (outcome_turned_down l k)).next) b) r);
     }
 
-    pub machine-refused : is_well_formed R L b ≡ true → (n : ℕ) → 1 ≤ n → refusal R (view l) c ≡ n → Answers R L b c (Refused n) b
+    pub machine-refused : is_well_formed R L b ≡ true → (n : ℕ) → 1 ≤ n → refusal R (view l) c ≡ n → Answers R L b c (Err n) b
     machine-refused e zero h r = let z : ⊥ = omega arith in absurd z
     machine-refused e (suc n) h r = answers_by e (suc n) r
 
@@ -81,5 +81,5 @@ module _ {R : Rules} {L : Layout} (laws : Lawful R L) (b : List ℕ) where
     machine-accepted e r = answers_by e 0 r
 
 module _ {R : Rules} {L : Layout} (laws : Lawful R L) (b : List ℕ) (c : CallWithBook) where
-  pub malformed-refused : Malformed ≡ checked_of R L b → Answers R L b c (Refused 2) b
+  pub malformed-refused : malformed ≡ checked_of R L b → Answers R L b c (Err 2) b
   malformed-refused e = machine-malformed laws b c (check-malformed laws b e)

@@ -1,5 +1,6 @@
 -- What the reading of a row slot says, and each turn of the pass over the rows, from what is still to be found to what is found. The pass
 -- holds the contract and the last day of the row before. Assumes nothing.
+use Rattle.std.specs.Prelude.{Result, Ok, Err, Option, Some, None}
 use mathlib.Core.Path.{◌≡◌, refl, sym, ap, ap₂, ◌∙◌, subst}
 use mathlib.Core.Bool.{Bool, true, false, cond, ◌&&◌}
 use mathlib.Core.List.{List, [], ◌∷◌, map}
@@ -21,6 +22,8 @@ use Rattle.records.proofs.Slots.{length-slots}
 use Rattle.records.proofs.OneSlot.{slots_next, zero_rest}
 use Rattle.records.proofs.Scan.{record_of, Following, bool_same, test, scan-exactly, found, found-end, found-free, found-trailing, found-bad, found-good}
 use Rattle.amounts.proofs.AmountBounds.{highest_amount}
+use Rattle.refusals.specs.declared.Refusal.{Refusal}
+use Rattle.refusals.specs.declared.Refusal.TheVariants.{NotWellFormed}
 use Rattle.model.specs.declared.Row.{Row}
 use Rattle.model.specs.OpenContracts.{Contracts}
 use Rattle.model.specs.Rules.{Rules}
@@ -30,11 +33,8 @@ use Rattle.model.proofs.RowOrder.{Span, contracts-ascend, begins-later}
 use Rattle.model.proofs.ContractThenDay.{by_day, contract-or-day, carried}
 use Rattle.model.proofs.RowBounds.{row-span, row-begins, amount-low}
 use Rattle.layout.specs.Layout.{Layout, row_ok, comes_before, first_row, ledger_length, contracts_in, row_slots}
-use Rattle.layout.specs.declared.Checked.{Checked}
-use Rattle.layout.specs.declared.Checked.TheVariants.{Malformed, WellFormed}
-use Rattle.layout.specs.declared.RowSlot.{RowSlot}
-use Rattle.layout.specs.declared.RowSlot.TheVariants.{Free, Bad, Held}
-use Rattle.layout.specs.Check.{row_slot_at, slot_read, rows_checked_of}
+use Rattle.layout.specs.declared.Totals.{Totals}
+use Rattle.layout.specs.Check.{row_slot_at, slot_read, rows_checked_of, malformed, well_formed}
 use Rattle.layout.proofs.LayoutLaws.{row-facts}
 use Rattle.layout.proofs.Order.{comes-before, before-comes}
 use Rattle.layout.proofs.Lawful.{Lawful}
@@ -48,8 +48,8 @@ abbrev follows : ℕ × ℕ → Row → Bool
 follows s x = comes_after s.0 s.1 x.bill
 
 -- what the pass finds of the row slots vs, with `rows` rows before them, whose amounts add up to `due` and of which the last is held
-abbrev passed : Rules → Layout → Contracts → (contract last rows due : ℕ) → List (List ℕ) → Checked
-passed R L cs contract last = found L.row (row_ok R cs) holds follows (λ x. x.amount) Malformed WellFormed (contract, last)
+abbrev passed : Rules → Layout → Contracts → (contract last rows due : ℕ) → List (List ℕ) → Result Totals Refusal
+passed R L cs contract last = found L.row (row_ok R cs) holds follows (λ x. x.amount) malformed well_formed (contract, last)
 
 -- the pass at row i: what is found from there on is what is to be found, and the amounts so far are those of i bills
 pub record Passing (R : Rules) (L : Layout) (b : List ℕ) (i contract last due : ℕ) : Type 0 where
@@ -91,18 +91,18 @@ module _ {R : Rules} {L : Layout} (laws : Lawful R L) where
   -- ---- one slot
 
   module _ (v : List ℕ) where
-    pub read-free : eqb (get_or v 0 0) 0 ≡ true → Free ≡ slot_read R L v
+    pub read-free : eqb (get_or v 0 0) 0 ≡ true → Ok None ≡ slot_read R L v
     unfolding slot_read
     read-free e = rw e
 
     module _ (taken : eqb (get_or v 0 0) 0 ≡ false) where
-      pub read-bad : all_zero (drop (suc (length L.row.widths)) v) ≡ false → Bad ≡ slot_read R L v
+      pub read-bad : all_zero (drop (suc (length L.row.widths)) v) ≡ false → Err NotWellFormed ≡ slot_read R L v
       unfolding slot_read
       read-bad e = rw (taken, e)
 
-      pub read_held : all_zero (drop (suc (length L.row.widths)) v) ≡ true → (x : Row) → x ≡ record_of L.row v → Held x ≡ slot_read R L v
+      pub read_held : all_zero (drop (suc (length L.row.widths)) v) ≡ true → (x : Row) → x ≡ record_of L.row v → Ok (Some x) ≡ slot_read R L v
       unfolding slot_read
-      read_held e x m = rw (taken, e) (ap Held m)
+      read_held e x m = rw (taken, e) (ap (λ (y : Row). Ok (Some y)) m)
 
     -- what each reading says
     pub record HeldSlot (x : Row) : Type 0 where
@@ -110,21 +110,21 @@ module _ {R : Rules} {L : Layout} (laws : Lawful R L) where
       pub padded : all_zero (drop (suc (length L.row.widths)) v) ≡ true
       pub holding : x ≡ record_of L.row v
 
-    abbrev Says : RowSlot → Type 0
-    Says Free = get_or v 0 0 ≡ 0
-    Says Bad = (eqb (get_or v 0 0) 0 ≡ false) × (all_zero (drop (suc (length L.row.widths)) v) ≡ false)
-    Says (Held x) = HeldSlot x
+    abbrev Says : Result (Option Row) Refusal → Type 0
+    Says (Ok None) = get_or v 0 0 ≡ 0
+    Says (Err r) = (eqb (get_or v 0 0) 0 ≡ false) × (all_zero (drop (suc (length L.row.widths)) v) ≡ false)
+    Says (Ok (Some x)) = HeldSlot x
 
-    read-says : {r : RowSlot} → r ≡ slot_read R L v → Says r
+    read-says : {r : Result (Option Row) Refusal} → r ≡ slot_read R L v → Says r
     unfolding slot_read
     read-says {r} e = subst Says (sym e) (go (eqb (get_or v 0 0) 0) refl (all_zero (drop (suc (length L.row.widths)) v)) refl)
       where
-        go : (f : Bool) → eqb (get_or v 0 0) 0 ≡ f → (z : Bool) → all_zero (drop (suc (length L.row.widths)) v) ≡ z → Says (cond f Free (cond z (Held (record_of L.row v)) Bad))
+        go : (f : Bool) → eqb (get_or v 0 0) 0 ≡ f → (z : Bool) → all_zero (drop (suc (length L.row.widths)) v) ≡ z → Says (cond f (Ok None) (cond z (Ok (Some (record_of L.row v))) (Err NotWellFormed)))
         go true f z h = eq_yes (get_or v 0 0) 0 f
         go false f false h = (f, h)
         go false f true h = record { taken = f; padded = h; holding = refl }
 
-    pub row-of-slot : {x : Row} → Held x ≡ slot_read R L v → x ≡ record_of L.row v
+    pub row-of-slot : {x : Row} → Ok (Some x) ≡ slot_read R L v → x ≡ record_of L.row v
     row-of-slot f = let g = read-says f in g.holding
 
   -- ---- the pass
@@ -142,21 +142,21 @@ module _ {R : Rules} {L : Layout} (laws : Lawful R L) where
       place = omega arith;
       low = omega arith;
       rest =
-          ap₂ (λ (p : Bool) (c : Checked). cond p c Malformed) (scan-exactly L.row (row_ok R cs) holds follows comes_before (0, 0) (rows-following cs) numbers)
-          (ap₂ WellFormed (plus (length (held (map (slot_in L.row) numbers)))) (plus (total (λ x. x.amount) (held (map (slot_in L.row) numbers)))));
+          ap₂ (λ (p : Bool) (c : Result Totals Refusal). cond p c malformed) (scan-exactly L.row (row_ok R cs) holds follows comes_before (0, 0) (rows-following cs) numbers)
+          (ap₂ well_formed (plus (length (held (map (slot_in L.row) numbers)))) (plus (total (λ x. x.amount) (held (map (slot_in L.row) numbers)))));
     }
       where
         plus : (n : ℕ) → 0 + n ≡ n
         plus n = omega arith
 
     module _ {i contract last due : ℕ} (p : Passing R L b i contract last due) where
-      pub pass-ends : row_count ≤ i → WellFormed row_count due ≡ rows_checked_of R L b
+      pub pass-ends : row_count ≤ i → well_formed row_count due ≡ rows_checked_of R L b
       pass-ends h =
           let e : i ≡ row_count = omega (arith, p.place) in
           let n : row_count ≡ length numbers = sym (length-slots L.row row_count (drop (first_row R L) b)) in
           let z : drop i numbers ≡ [] = ap (λ (k : ℕ). drop k numbers) (e ∙ n) ∙ drop-length numbers in
-          ap (λ (k : ℕ). WellFormed k due) (sym e)
-          ∙ sym (found-end L.row (row_ok R cs) holds follows (λ x. x.amount) Malformed WellFormed (contract, last) i due)
+          ap (λ (k : ℕ). well_formed k due) (sym e)
+          ∙ sym (found-end L.row (row_ok R cs) holds follows (λ x. x.amount) malformed well_formed (contract, last) i due)
           ∙ ap (passed R L cs contract last i due) (sym z) ∙ p.rest
 
       module _ (long : length b ≡ ledger_length R L) (h : i < row_count) where
@@ -172,16 +172,16 @@ module _ {R : Rules} {L : Layout} (laws : Lawful R L) where
         here : passed R L cs contract last i due (v ∷ vs) ≡ rows_checked_of R L b
         here = ap (passed R L cs contract last i due) (sym next-slots) ∙ p.rest
 
-        malformed : eqb (get_or v 0 0) 0 ≡ false → test L.row (row_ok R cs) v && follows (contract, last) (record_of L.row v) ≡ false → Malformed ≡ rows_checked_of R L b
-        malformed taken e = sym (found-bad L.row (row_ok R cs) holds follows (λ x. x.amount) Malformed WellFormed (contract, last) i due v vs taken e) ∙ here
+        not-good : eqb (get_or v 0 0) 0 ≡ false → test L.row (row_ok R cs) v && follows (contract, last) (record_of L.row v) ≡ false → malformed ≡ rows_checked_of R L b
+        not-good taken e = sym (found-bad L.row (row_ok R cs) holds follows (λ x. x.amount) malformed well_formed (contract, last) i due v vs taken e) ∙ here
 
         -- one of the bits that must stay zero is not
-        pub slot-malformed : Bad ≡ slot_read R L v → Malformed ≡ rows_checked_of R L b
+        pub slot-malformed : Err NotWellFormed ≡ slot_read R L v → malformed ≡ rows_checked_of R L b
         unfolding slot_ok
-        slot-malformed f = let g = read-says v f in malformed g.0 (rw g.1)
+        slot-malformed f = let g = read-says v f in not-good g.0 (rw g.1)
 
         -- the slot holds the row x
-        module _ {x : Row} (f : Held x ≡ slot_read R L v) where
+        module _ {x : Row} (f : Ok (Some x) ≡ slot_read R L v) where
           holding : HeldSlot v x
           holding = read-says v f
 
@@ -189,8 +189,8 @@ module _ {R : Rules} {L : Layout} (laws : Lawful R L) where
           unfolding slot_ok
           passes = let g = holding in rw (g.taken, g.padded, g.holding)
 
-          pub row-malformed : row_ok R cs x && comes_after contract last x.bill ≡ false → Malformed ≡ rows_checked_of R L b
-          row-malformed e = malformed holding.taken (passes ∙ e)
+          pub row-malformed : row_ok R cs x && comes_after contract last x.bill ≡ false → malformed ≡ rows_checked_of R L b
+          row-malformed e = not-good holding.taken (passes ∙ e)
 
           -- a row that passes: its amount is that of a bill, and the pass goes on with it in hand
           module _ (e : row_ok R cs x && comes_after contract last x.bill ≡ true) where
@@ -206,11 +206,11 @@ module _ {R : Rules} {L : Layout} (laws : Lawful R L) where
               low = omega (arith, p.low, amount-most);
               rest =
                   ap (λ (y : Row). passed R L cs y.bill.contract y.bill.last (i + 1) (due + y.amount) vs) holding.holding
-                  ∙ sym (found-good L.row (row_ok R cs) holds follows (λ y. y.amount) Malformed WellFormed (contract, last) i due v vs holding.taken (passes ∙ e)) ∙ here;
+                  ∙ sym (found-good L.row (row_ok R cs) holds follows (λ y. y.amount) malformed well_formed (contract, last) i due v vs holding.taken (passes ∙ e)) ∙ here;
             }
 
         -- a free slot: zeros follow to the end, or not
-        module _ (bytes : AreBytes b) (f : Free ≡ slot_read R L v) where
+        module _ (bytes : AreBytes b) (f : Ok None ≡ slot_read R L v) where
           abbrev rest_zero : Bool
           rest_zero = zero_at (first_row R L + i * size (whole L.row)) (ledger_length R L - (first_row R L + i * size (whole L.row))) b
 
@@ -218,11 +218,11 @@ module _ {R : Rules} {L : Layout} (laws : Lawful R L) where
           unfolding ledger_length
           zeros = zero_rest L.row (row-whole laws) row_count (first_row R L) b (rows_inside laws b long) i bytes h ∙ ap (λ (ws : List (List ℕ)). every (map all_zero ws)) next-slots
 
-          rows_end : rest_zero ≡ true → WellFormed i due ≡ rows_checked_of R L b
-          rows_end z = sym (found-free L.row (row_ok R cs) holds follows (λ x. x.amount) Malformed WellFormed (contract, last) i due v vs (read-says v f) (sym zeros ∙ z)) ∙ here
+          rows_end : rest_zero ≡ true → well_formed i due ≡ rows_checked_of R L b
+          rows_end z = sym (found-free L.row (row_ok R cs) holds follows (λ x. x.amount) malformed well_formed (contract, last) i due v vs (read-says v f) (sym zeros ∙ z)) ∙ here
 
-          rows-trailing : rest_zero ≡ false → Malformed ≡ rows_checked_of R L b
-          rows-trailing z = sym (found-trailing L.row (row_ok R cs) holds follows (λ x. x.amount) Malformed WellFormed (contract, last) i due v vs (read-says v f) (sym zeros ∙ z)) ∙ here
+          rows-trailing : rest_zero ≡ false → malformed ≡ rows_checked_of R L b
+          rows-trailing z = sym (found-trailing L.row (row_ok R cs) holds follows (λ x. x.amount) malformed well_formed (contract, last) i due v vs (read-says v f) (sym zeros ∙ z)) ∙ here
 
-          pub rows-rest : cond rest_zero (WellFormed i due) Malformed ≡ rows_checked_of R L b
+          pub rows-rest : cond rest_zero (well_formed i due) malformed ≡ rows_checked_of R L b
           rows-rest = either rest_zero (λ z. rw z (rows_end z)) (λ z. rw z (rows-trailing z))

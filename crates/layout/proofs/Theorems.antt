@@ -11,8 +11,8 @@ use Rattle.records.specs.Pack.{size, pack}
 use Rattle.basics.specs.Lists.{All}
 use Rattle.model.specs.declared.Row.{Row}
 use Rattle.model.specs.declared.Call.{Call}
-use Rattle.model.specs.declared.Answer.TheVariants.{Refused}
-use Rattle.model.specs.Calls.{CallWithBook, values_of, ◌with◌}
+use Rattle.std.specs.Prelude.{Err}
+use Rattle.model.specs.Calls.{CallWithBook, values_in, ◌with◌}
 use Rattle.model.specs.Rules.{refusal, unless_refused}
 use Rattle.model.specs.Ledger.{Ledger, fresh, view, outcome_turned_down, accept, outcome, answer}
 use Rattle.model.specs.StoredEarlier.{RatedByDay}
@@ -96,14 +96,14 @@ rows-kept b f c end fix entry book = go (refusal rules (view (facts b)) call) re
         ∙ ap (λ (l : Ledger). l.rows) (unpacked-packed present next (stays-act rules present.rules (facts b) call (facts-kept b f) e))
     go (suc n) e = ap rows_of (machine-refused present b call f (suc n) (omega arith) e).left
 
-no-numbers : (b : List ℕ) (c end fix entry : ℕ) (book : List ℕ) → values_of (machine.answer b (Call.Amend c end fix entry with book)) ≡ []
+no-numbers : (b : List ℕ) (c end fix entry : ℕ) (book : List ℕ) → values_in (machine.answer b (Call.Amend c end fix entry with book)) ≡ []
 unfolding answer outcome accept
 no-numbers b c end fix entry book = go (is_well_formed rules layout b) (refusal rules (view (facts b)) call)
   where
     call : CallWithBook
     call = Call.Amend c end fix entry with book
 
-    go : (formed : Bool) (n : ℕ) → values_of (cond formed (unless_refused n (accept rules (facts b) call) (outcome_turned_down (facts b) n)).answers (Refused 2)) ≡ []
+    go : (formed : Bool) (n : ℕ) → values_in (cond formed (unless_refused n (accept rules (facts b) call) (outcome_turned_down (facts b) n)).answers (Err 2)) ≡ []
     go true zero = refl
     go true (suc n) = refl
     go false n = refl

@@ -1,12 +1,13 @@
 -- What is in force: the rules and the layout of a ledger today, and what its bytes hold by them. Assumes nothing.
-use Rattle.std.specs.Prelude.{◌≡◌, true, List, ℕ}
+use Rattle.std.specs.Prelude.{◌≡◌, true, List, ℕ, Result}
 use Rattle.model.specs.declared.Row.{Row}
 use Rattle.model.specs.OpenContracts.{Contracts}
 use Rattle.model.specs.Rules.{Rules}
 use Rattle.model.specs.PresentRules.{present_rules}
 use Rattle.model.specs.Ledger.{Ledger}
 use Rattle.model.specs.History.{Machine}
-use Rattle.layout.specs.declared.Checked.{Checked}
+use Rattle.refusals.specs.declared.Refusal.{Refusal}
+use Rattle.layout.specs.declared.Totals.{Totals}
 use Rattle.layout.specs.Layout.{Layout, is_well_formed, contracts_in, ledger_of, bytes_of, machine_of}
 use Rattle.layout.specs.Check as Check
 use Rattle.layout.specs.PresentLayout.{present_layout}
@@ -31,7 +32,7 @@ abbrev pub bytes : Ledger → List ℕ
 bytes l = bytes_of rules layout l
 
 -- what a check finds, the numbers of row slot i and its row, and a ledger to be searched
-abbrev pub checked_of : List ℕ → Checked
+abbrev pub checked_of : List ℕ → Result Totals Refusal
 checked_of b = Check.checked_of rules layout b
 
 abbrev pub row_slot_at : List ℕ → ℕ → List ℕ

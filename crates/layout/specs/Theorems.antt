@@ -1,10 +1,9 @@
 -- What is established of the packed ledger, by the rules and the layout in force. Assumes nothing.
-use Rattle.std.specs.Prelude.{◌≡◌, List, [], ◌∷◌, ◌↔◌, ℕ, ◌-◌, ◌*◌, ◌≤◌, length, replicate}
+use Rattle.std.specs.Prelude.{◌≡◌, List, [], ◌∷◌, ◌↔◌, ℕ, ◌-◌, ◌*◌, ◌≤◌, length, replicate, Err}
 use Rattle.basics.specs.Lists.{All}
 use Rattle.amounts.specs.EarlierAmount.{earlier_amount}
-use Rattle.model.specs.declared.Answer.TheVariants.{Refused}
 use Rattle.model.specs.declared.Call.{Call}
-use Rattle.model.specs.Calls.{CallWithBook, values_of, ◌with◌}
+use Rattle.model.specs.Calls.{CallWithBook, values_in, ◌with◌}
 use Rattle.model.specs.Ledger.{Ledger, fresh}
 use Rattle.model.specs.WellFormed.{WellFormed}
 use Rattle.model.specs.StoredEarlier.{rules_with, RatedByDay}
@@ -43,7 +42,7 @@ pub record ClaimsKept : Type 0 where
 -- number 2, whatever the call, and no byte is changed; the bytes of a ledger's facts that were well formed earlier are so where the amounts are those by day
 pub record AmountsKept : Type 0 where
   pub by_day : (b : List ℕ) → Formed b → All (RatedByDay (facts b).contracts) (facts b).rows
-  pub refused : (b : List ℕ) → (All (RatedByDay (facts b).contracts) (facts b).rows → ⊥) → (c : CallWithBook) → machine.answer b c ≡ Refused 2
+  pub refused : (b : List ℕ) → (All (RatedByDay (facts b).contracts) (facts b).rows → ⊥) → (c : CallWithBook) → machine.answer b c ≡ Err 2
   pub unchanged : (b : List ℕ) → (All (RatedByDay (facts b).contracts) (facts b).rows → ⊥) → (c : CallWithBook) → machine.step b c ≡ b
   pub taken : (l : Ledger) → WellFormed (rules_with earlier_amount) l → All (RatedByDay l.contracts) l.rows → Formed (bytes l)
 
@@ -77,7 +76,7 @@ PackedSameAsPostings = SameAsPostings rules machine
 
 -- an amend "answers no numbers and alters no row": of any bytes, and of a well-formed ledger, whatever numbers are given
 pub record AmendAltersNoRow : Type 0 where
-  pub answers : (b : List ℕ) (c end fix entry : ℕ) (book : List ℕ) → values_of (machine.answer b (Call.Amend c end fix entry with book)) ≡ []
+  pub answers : (b : List ℕ) (c end fix entry : ℕ) (book : List ℕ) → values_in (machine.answer b (Call.Amend c end fix entry with book)) ≡ []
   pub rows : (b : List ℕ) → Formed b → (c end fix entry : ℕ) (book : List ℕ) → (facts (machine.step b (Call.Amend c end fix entry with book))).rows ≡ (facts b).rows
   -- and in every history it changes no bill's part of due
   pub parts : EveryAmendKeepsParts rules
@@ -91,7 +90,7 @@ pub record LargerRowsWereStored : Type 0 where
 -- number 2 comes before all others: whatever the bytes and the call, where the bytes aren't a well-formed ledger the call is turned down by
 -- number 2 and no byte is changed
 pub record NumberTwoFirst : Type 0 where
-  pub refused : (b : List ℕ) → (Formed b → ⊥) → (c : CallWithBook) → machine.answer b c ≡ Refused 2
+  pub refused : (b : List ℕ) → (Formed b → ⊥) → (c : CallWithBook) → machine.answer b c ≡ Err 2
   pub unchanged : (b : List ℕ) → (Formed b → ⊥) → (c : CallWithBook) → machine.step b c ≡ b
 
 -- number 2 meets no call of a history

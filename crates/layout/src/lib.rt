@@ -1,10 +1,9 @@
-// The layout of the packed ledger. Its code is the sizes in bytes and what is read of a slot and found by a check; the rest is specs/ and
+// The layout of the packed ledger. Its code is the sizes in bytes and what a check finds; the rest is specs/ and
 // proofs/.
 
 #![tactic(auto)]
 
 use limits::{CONTRACT_COUNT, ROW_COUNT};
-use model::Row;
 
 // The byte at which the contracts begin.
 pub const FIRST_CONTRACT: usize = 8;
@@ -21,17 +20,9 @@ pub const ROW_LENGTH: usize = 25;
 // How many bytes a ledger takes.
 pub const LEDGER_LENGTH: usize = FIRST_ROW + ROW_COUNT * ROW_LENGTH;
 
-// What a well-formed check finds: how many rows are held, and the sum of their amounts.
+// What a check finds of a well-formed ledger: how many rows are held, and the sum of their amounts.
 #[derive(Clone, Copy)]
-pub enum Checked {
-    Malformed,
-    WellFormed { rows: u32, due: u64 },
-}
-
-// What is read of a row's slot: it is free; or one of the bits that must stay zero is not; or the row that it holds.
-#[derive(Clone, Copy)]
-pub enum RowSlot {
-    Free,
-    Bad,
-    Held(Row),
+pub struct Totals {
+    pub rows: usize,
+    pub due: u64,
 }

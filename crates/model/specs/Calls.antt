@@ -1,5 +1,6 @@
 -- Document 01, "Calls", with paper 5's amend: the calls of a history, what they answer, and what the refusals read. Assumes nothing.
 use Rattle.std.specs.Prelude.{Bool, cond, ◌&&◌, List, [], ◌∷◌, ℕ, zero, suc, leb, ltb, eqb, ℤ, pos, length, Result, Ok, Err}
+use Rattle.refusals.specs.Numbers.{number_in}
 use Rattle.rates.specs.declared.Contract.{Contract}
 use Rattle.rates.specs.TermsTaken.{terms_for}
 use Rattle.amounts.specs.declared.Bill.{Bill}
@@ -48,14 +49,17 @@ padded (suc n) (v ∷ vs) = v ∷ padded n vs
 abbrev pub reply_of_values : ℕ → List ℤ → Reply
 reply_of_values n vs = record { refused = n; count = length vs; numbers = padded answer_numbers vs }
 
--- the reply without numbers: a refusal by its number, which is 0 where nothing is answered but ok
+-- the values that a call answers: a refused one none
+abbrev pub values_in : Result Answer ℕ → List ℤ
+values_in (Ok a) = values_of a
+values_in (Err n) = []
+
+-- the reply of a call; and one without numbers: a refusal by its number, which is 0 where nothing is answered but ok
+abbrev pub reply_of : Result Answer ℕ → Reply
+reply_of a = reply_of_values (number_in a) (values_in a)
+
 abbrev pub reply_without_numbers : ℕ → Reply
 reply_without_numbers n = reply_of_values n []
-
--- the reply of a call: of an accepted one the number 0 and the values, of a refused one its number and no values
-abbrev pub reply_of : Result Answer ℕ → Reply
-reply_of (Ok a) = reply_of_values 0 (values_of a)
-reply_of (Err n) = reply_without_numbers n
 
 -- the customer's signed amount: the amount of bill, and the differences of rebill, cert and cancel, zero where refused
 abbrev pub customer_amount : Result Answer ℕ → ℤ
