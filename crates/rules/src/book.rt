@@ -8,7 +8,7 @@ use crate::codes;
 use amounts::Bill;
 use limits::{BOOK_LENGTH, DAY_COUNT, HIGHEST_PRICE};
 use model::Request;
-use rates::{Contract, Fuel, Kind, Terms, greater, terms_for};
+use rates::{Contract, Fuel, Kind, Terms, terms_for};
 
 // How many days a fuel's fixed prices have, and how many months its variable prices and the index have.
 const DAYS: usize = DAY_COUNT as usize;
@@ -29,10 +29,8 @@ pub fn bad_book(book: &[u32]) -> bool
         return true;
     }
     let mut highest: u32 = 0;
-    let mut i: usize = 0;
-    while i < book.len() {
-        highest = greater(highest, book[i]);
-        i += 1;
+    for price in book {
+        highest = highest.max(*price);
     }
     HIGHEST_PRICE < highest
 }
@@ -42,16 +40,12 @@ fn index_of(fuel: Fuel, kind: Kind, first: u32) -> usize
     ensures { result ≡ book_index fuel kind first }
 {
     let code = codes::fuel_code(fuel) as usize;
+    let month = calendar::scheme_month(first) as usize;
     match kind {
-        Kind::Fixed {
-            price_fix_day,
-            entry_day: _,
-        } => code * DAYS + price_fix_day as usize,
-        Kind::Variable => FIRST_VARIABLE_ENTRY
-            + code * MONTHS
-            + calendar::scheme_month(first) as usize,
+        Kind::Fixed { price_fix_day, .. } => code * DAYS + price_fix_day as usize,
+        Kind::Variable => FIRST_VARIABLE_ENTRY + code * MONTHS + month,
         Kind::Flexible => 0,
-        Kind::Index => FIRST_INDEX_ENTRY + calendar::scheme_month(first) as usize,
+        Kind::Index => FIRST_INDEX_ENTRY + month,
     }
 }
 
@@ -59,32 +53,26 @@ fn index_of(fuel: Fuel, kind: Kind, first: u32) -> usize
 fn price_at(book: &[u32], index: usize) -> u32
     ensures { result ≡ get_or book.now index 0 }
 {
-    if index < book.len() {
-        return book[index];
-    }
-    0
+    book.get(index).copied().unwrap_or(0)
 }
 
 // The reference price by the terms: the weighted price of a flexible contract, else the book's.
+#[tactic(auto, unfolding(model::specs::Book::reference))]
 pub fn reference(terms: Terms, first: u32, wap: u32, book: &[u32]) -> u32
     ensures { result ≡ reference terms first wap book.now }
 {
-    let fuel = terms.fuel;
-    let kind = terms.kind;
-    if codes::is_flexible(kind) {
+    if codes::is_flexible(terms.kind) {
         return wap;
     }
-    price_at(book, index_of(fuel, kind, first))
+    price_at(book, index_of(terms.fuel, terms.kind, first))
 }
 
 // The price that is needed is 0: a flexible contract needs none.
+#[tactic(auto, unfolding(model::specs::PresentRules::no_price))]
 pub fn no_price(kind: Kind, reference: u32) -> bool
     ensures { result ≡ no_price kind reference }
 {
-    if codes::is_flexible(kind) {
-        return false;
-    }
-    reference == 0
+    !codes::is_flexible(kind) && reference == 0
 }
 
 // The bill of a request under its contract, with the reference price from the book or the request.

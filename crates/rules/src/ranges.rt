@@ -15,22 +15,11 @@ use model::Request;
 use rates::{Amendment, Contract, Kind};
 
 // A fuel or kind code has no meaning, or kind 3 is given outside its place.
+#[tactic(auto, unfolding(model::specs::PresentRules::bad_kind))]
 pub fn bad_kind(territory: u32, fuel: u32, kind: u32) -> bool
     ensures { result ≡ bad_kind territory fuel kind }
 {
-    if 1 < fuel {
-        return true;
-    }
-    if 3 < kind {
-        return true;
-    }
-    if kind == 3 {
-        if fuel == 0 {
-            return territory != 1;
-        }
-        return true;
-    }
-    false
+    1 < fuel || 3 < kind || (kind == 3 && !(fuel == 0 && territory == 1))
 }
 
 // A class code has no meaning.
@@ -41,92 +30,59 @@ pub fn bad_class(class: u32) -> bool
 }
 
 // A price-fix or entry day is after the last day, or not 0 where the kind is not fixed.
+#[tactic(auto, unfolding(model::specs::PresentRules::bad_days))]
 pub fn bad_days(kind: u32, price_fix_day: u32, entry_day: u32) -> bool
     ensures { result ≡ bad_days kind price_fix_day entry_day }
 {
-    if LAST_DAY < price_fix_day {
-        return true;
-    }
-    if LAST_DAY < entry_day {
-        return true;
-    }
-    if kind == 0 {
-        return false;
-    }
-    if price_fix_day == 0 {
-        return entry_day != 0;
-    }
-    true
+    LAST_DAY < price_fix_day
+        || LAST_DAY < entry_day
+        || (kind != 0 && !(price_fix_day == 0 && entry_day == 0))
 }
 
 // An effective day is after the last day or before the first one of its class, or not 0 for class 0.
+#[tactic(auto, unfolding(model::specs::PresentRules::bad_effective))]
 pub fn bad_effective(class: u32, effective_day: u32) -> bool
     ensures { result ≡ bad_effective class effective_day }
 {
     if class == 0 {
         return effective_day != 0;
     }
-    if LAST_DAY < effective_day {
-        return true;
-    }
-    if class == 2 {
-        return effective_day < FIRST_QHS_DAY;
-    }
-    effective_day < FIRST_SCHEME_DAY
+    let first_day = if class == 2 { FIRST_QHS_DAY } else { FIRST_SCHEME_DAY };
+    LAST_DAY < effective_day || effective_day < first_day
 }
 
 // An original end is no day of the scheme, or an amendment's price-fix or entry day is after the last day.
+#[tactic(auto, unfolding(model::specs::PresentRules::bad_amendment_days))]
 pub fn bad_amendment_days(original_end_day: u32, price_fix_day: u32, entry_day: u32) -> bool
     ensures { result ≡ bad_amendment_days original_end_day price_fix_day entry_day }
 {
-    if original_end_day < FIRST_SCHEME_DAY {
-        return true;
-    }
-    if LAST_DAY < original_end_day {
-        return true;
-    }
-    if LAST_DAY < price_fix_day {
-        return true;
-    }
-    LAST_DAY < entry_day
+    !(FIRST_SCHEME_DAY <= original_end_day && original_end_day <= LAST_DAY)
+        || LAST_DAY < price_fix_day
+        || LAST_DAY < entry_day
 }
 
 // A contract isn't fixed or is amended already.
+#[tactic(auto, unfolding(model::specs::PresentRules::not_amendable))]
 pub fn not_amendable(contract: Contract) -> bool
     ensures { result ≡ not_amendable contract }
 {
-    let kind = contract.kind;
-    let amendment = contract.amendment;
-    if codes::is_fixed(kind) {
-        return codes::is_amended(amendment);
-    }
-    true
+    !codes::is_fixed(contract.kind) || codes::is_amended(contract.amendment)
 }
 
 // Not the scheme's first day ≤ first ≤ last ≤ the last day.
+#[tactic(auto, unfolding(model::specs::PresentRules::bad_span))]
 pub fn bad_span(first: u32, last: u32) -> bool
     ensures { result ≡ bad_span first last }
 {
-    if first < FIRST_SCHEME_DAY {
-        return true;
-    }
-    if last < first {
-        return true;
-    }
-    if LAST_DAY < last {
-        return true;
-    }
-    false
+    !(FIRST_SCHEME_DAY <= first && first <= last && last <= LAST_DAY)
 }
 
 // A variable or index span of the scheme touches two months.
+#[tactic(auto, unfolding(model::specs::PresentRules::bad_months))]
 pub fn bad_months(kind: Kind, first: u32, last: u32) -> bool
     ensures { result ≡ bad_months kind first last }
 {
-    if codes::is_monthly(kind) {
-        return calendar::scheme_month(first) != calendar::scheme_month(last);
-    }
-    false
+    codes::is_monthly(kind) && calendar::scheme_month(first) != calendar::scheme_month(last)
 }
 
 // Whether a span starts on or before the original end and ends after it.
@@ -149,23 +105,14 @@ pub fn crosses_end(amendment: Amendment, first: u32, last: u32) -> bool
 }
 
 // kWh, S or WAP is out of range, or a WAP is not 0 where the contract is not flexible.
+#[tactic(auto, unfolding(model::specs::PresentRules::bad_amounts))]
 pub fn bad_amounts(contract: Contract, request: Request) -> bool
     ensures { result ≡ bad_amounts contract request }
 {
-    if MOST_KWH_GIVEN < request.kwh {
-        return true;
-    }
-    if HIGHEST_PRICE < request.supply {
-        return true;
-    }
-    if HIGHEST_PRICE < request.wap {
-        return true;
-    }
-    let kind = contract.kind;
-    if codes::is_flexible(kind) {
-        return false;
-    }
-    request.wap != 0
+    MOST_KWH_GIVEN < request.kwh
+        || HIGHEST_PRICE < request.supply
+        || HIGHEST_PRICE < request.wap
+        || (!codes::is_flexible(contract.kind) && request.wap != 0)
 }
 
 // The two shares exceed kWh: their sum is taken in 64 bits.
@@ -176,6 +123,7 @@ pub fn bad_shares(kwh: u32, etii: u32, qhs: u32) -> bool
 }
 
 // A clear flag has a day that is not 0; or a set one is on a contract that is not fixed, or has a day out of its range.
+#[tactic(auto, unfolding(model::specs::PresentRules::bad_amendment))]
 fn bad_amendment(
     kind: u32,
     flag: u32,
@@ -186,71 +134,39 @@ fn bad_amendment(
     ensures { result ≡ bad_amendment kind flag original_end_day price_fix_day entry_day }
 {
     if flag == 0 {
-        if original_end_day != 0 {
-            return true;
-        }
-        if price_fix_day != 0 {
-            return true;
-        }
-        return entry_day != 0;
+        return !(original_end_day == 0 && price_fix_day == 0 && entry_day == 0);
     }
-    if 1 < flag {
-        return true;
-    }
-    if kind != 0 {
-        return true;
-    }
-    bad_amendment_days(original_end_day, price_fix_day, entry_day)
+    1 < flag || kind != 0 || bad_amendment_days(original_end_day, price_fix_day, entry_day)
 }
 
 // The numbers of an open contract keep the ranges.
+#[tactic(auto, unfolding(model::specs::PresentRules::contract_ranges))]
 pub fn contract_ranges(territory: u32, numbers: ContractNumbers) -> bool
     ensures { result ≡ contract_ranges territory (listed numbers) }
 {
-    if bad_kind(territory, numbers.fuel, numbers.kind) {
-        return false;
-    }
-    if bad_days(numbers.kind, numbers.price_fix_day, numbers.entry_day) {
-        return false;
-    }
-    if bad_class(numbers.class) {
-        return false;
-    }
-    if bad_effective(numbers.class, numbers.effective_day) {
-        return false;
-    }
-    !bad_amendment(
-        numbers.kind,
-        numbers.amendment_flag,
-        numbers.original_end_day,
-        numbers.amended_price_fix_day,
-        numbers.amended_entry_day,
-    )
+    !(bad_kind(territory, numbers.fuel, numbers.kind)
+        || bad_days(numbers.kind, numbers.price_fix_day, numbers.entry_day)
+        || bad_class(numbers.class)
+        || bad_effective(numbers.class, numbers.effective_day)
+        || bad_amendment(
+            numbers.kind,
+            numbers.amendment_flag,
+            numbers.original_end_day,
+            numbers.amended_price_fix_day,
+            numbers.amended_entry_day,
+        ))
 }
 
 // A held row's bill keeps the ranges under its contract.
+#[tactic(auto, unfolding(model::specs::PresentRules::bill_ok))]
 pub fn bill_ok(contract: Contract, bill: Bill) -> bool
     ensures { result ≡ bill_ok contract bill }
 {
-    if bad_span(bill.first, bill.last) {
-        return false;
-    }
-    if MOST_KWH_STORED < bill.kwh {
-        return false;
-    }
-    if bad_shares(bill.kwh, bill.etii, bill.qhs) {
-        return false;
-    }
-    if HIGHEST_PRICE < bill.supply {
-        return false;
-    }
-    if HIGHEST_PRICE < bill.reference {
-        return false;
-    }
-    let kind = contract.kind;
-    if no_price(kind, bill.reference) {
-        return false;
-    }
-    let amendment = contract.amendment;
-    !crosses_end(amendment, bill.first, bill.last)
+    !(bad_span(bill.first, bill.last)
+        || MOST_KWH_STORED < bill.kwh
+        || bad_shares(bill.kwh, bill.etii, bill.qhs)
+        || HIGHEST_PRICE < bill.supply
+        || HIGHEST_PRICE < bill.reference
+        || no_price(contract.kind, bill.reference)
+        || crosses_end(contract.amendment, bill.first, bill.last))
 }

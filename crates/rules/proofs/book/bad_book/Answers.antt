@@ -5,11 +5,11 @@ use Rattle.rules.proofs.book.bad_book.Goals as goal
 pub returns-then-book-ne-BOOK_LENGTH : goal.returns-then-book-ne-BOOK_LENGTH
 returns-then-book-ne-BOOK_LENGTH c = search book-length
 
-pub loop-i-init : goal.loop-i-init
-loop-i-init c = highest-none _
+pub loop-price-init : goal.loop-price-init
+loop-price-init c = highest-none _
 
-pub loop-i-preserved : goal.loop-i-preserved
-loop-i-preserved c = search highest-next
+pub loop-price-preserved : goal.loop-price-preserved
+loop-price-preserved c = search highest-next
 
 pub returns : goal.returns
 returns c = search book-tested
