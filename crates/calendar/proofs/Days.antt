@@ -2,10 +2,12 @@
 use Prim.Native.Nat.{ℕ, suc, ◌≤◌, ◌<◌}
 use mathlib.Core.Path.{◌≡◌, refl, sym, ap, ◌∙◌}
 use mathlib.Core.Bool.{Bool, true}
+use mathlib.Core.List.{map}
 use native.Mathlib.Omega.{arith}
 use lib.ListN.{length, get_or-map, get_or-eq_default}
 use Rattle.limits.specs.Limits.{day_count}
 use Rattle.calendar.specs.declared.CalendarDate.{CalendarDate}
+use Rattle.calendar.specs.declared.dates.TheConstants.{DATES}
 use Rattle.calendar.specs.TableOfDates.{date_at}
 use Rattle.calendar.specs.Days.{dates, date_of, no_date, packed, unpacked, packed_dates}
 use Rattle.basics.proofs.Tables.{adjacent, adjacent-at}
@@ -30,10 +32,15 @@ from-day-to-day test passed day inside = adjacent-at no_date test dates passed d
 
 -- the date of each day comes back from its packed form
 unpacked-packed : (day : ℕ) → unpacked (packed (date_of day)) ≡ date_of day
-unfolding dates date_of unpacked
+unfolding dates date_of
 unpacked-packed day = sym (get_or-map (λ date. unpacked (packed date)) dates day no_date)
 
 -- the date at each entry of the packed table is that of its day
 pub date-at-entry : (day : ℕ) → date_at packed_dates day ≡ date_of day
 unfolding date_of packed_dates
 date-at-entry day = ap unpacked (get_or-map packed dates day no_date) ∙ unpacked-packed day
+
+-- the code's entries stand for the dates of the table
+pub code-dates : map unpacked DATES ≡ dates
+unfolding dates
+code-dates = refl
