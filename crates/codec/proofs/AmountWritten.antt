@@ -1,7 +1,7 @@
 -- A row's slot with its amount written: the slot of the row with that amount. Assumes nothing.
+use Rattle.std.specs.Prelude.{Some}
 use mathlib.Core.Path.{◌≡◌, refl, subst, ◌∙◌}
 use mathlib.Core.List.{List}
-use mathlib.Core.Option.{some}
 use Prim.Native.Nat.{ℕ, ◌^◌, ◌<◌}
 use native.Mathlib.Omega.{arith}
 use lib.ListN.{length, take, get_or}
@@ -24,11 +24,11 @@ module _ (s : List ℕ) (a : ℕ) (low : a < 2 ^ 50) where
   abbrev last : ℕ
   last = length row_record.widths
 
-  fits : Fit (whole row_record) (slot_out row_record (some x))
+  fits : Fit (whole row_record) (slot_out row_record (Some x))
   unfolding slot_out record_in slot_numbers unpack fields
   fits = let f = fields_fit s (whole row_record) 0 in omega arith
 
-  fits-then : Fit (whole row_record) (slot_out row_record (some (with_amount x a)))
+  fits-then : Fit (whole row_record) (slot_out row_record (Some (with_amount x a)))
   unfolding slot_out record_in slot_numbers unpack fields
   fits-then = let f = fields_fit s (whole row_record) 0 in omega arith
 

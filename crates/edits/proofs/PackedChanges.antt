@@ -1,8 +1,8 @@
 -- The packed ledger in force: bytes that hold facts, edited as the functions of this crate and `codec::header::write_header` edit them,
 -- hold the changed facts. Assumes nothing.
+use Rattle.std.specs.Prelude.{Some}
 use mathlib.Core.Path.{◌≡◌, refl, sym, ap, ap₂, ◌∙◌}
 use mathlib.Core.List.{List, [], ◌∷◌}
-use mathlib.Core.Option.{some}
 use Prim.Native.Nat.{ℕ, suc, ◌+◌, ◌*◌, ◌≤◌, ◌<◌}
 use native.Mathlib.Omega.{arith}
 use lib.ListN.{length, set, replicate}
@@ -25,11 +25,11 @@ use Rattle.layout.specs.Present.{rules, layout, bytes}
 
 pub length-row : (x : Row) → length (record_bytes row_record x) ≡ row_length
 unfolding record_bytes size
-length-row x = length-pack (whole row_record) (slot_out row_record (some x))
+length-row x = length-pack (whole row_record) (slot_out row_record (Some x))
 
 pub length-contract : (k : Contract) → length (record_bytes contract_record k) ≡ contract_length
 unfolding record_bytes size
-length-contract k = length-pack (whole contract_record) (slot_out contract_record (some k))
+length-contract k = length-pack (whole contract_record) (slot_out contract_record (Some k))
 
 module _ (l : Ledger) (b d : List ℕ) (held : b ≡ bytes l) where
   -- after `insert_row`

@@ -1,8 +1,8 @@
 -- The contracts and the row slots of a packed ledger, read straight off its bytes. Assumes nothing.
+use Rattle.std.specs.Prelude.{None, Some}
 use mathlib.Core.Path.{◌≡◌, refl, sym, ap, ◌∙◌}
 use mathlib.Core.Bool.{Bool, true, false, cond, false≢true}
 use mathlib.Core.List.{List}
-use mathlib.Core.Option.{none, some}
 use Prim.Native.Nat.{ℕ, ◌+◌, ◌*◌, ◌≤◌, ◌<◌}
 use native.Mathlib.Omega.{arith}
 use lib.Dec.{eqb}
@@ -26,7 +26,7 @@ module _ {R : Rules} {L : Layout} (laws : Lawful R L) where
   contract-whole = (laws.layout.contract 0).aligned
 
   pub row-whole : WholeBytes (whole L.row)
-  row-whole = (laws.layout.row (λ c. none)).aligned
+  row-whole = (laws.layout.row (λ c. None)).aligned
 
 module _ {R : Rules} {L : Layout} (laws : Lawful R L) (b : List ℕ) (long : length b ≡ ledger_length R L) where
   pub contracts-inside : first_contract R L + R.contract_limit * size (whole L.contract) ≤ length b
@@ -61,6 +61,6 @@ module _ {R : Rules} {L : Layout} (laws : Lawful R L) (b : List ℕ) (long : len
         r : Contract
         r = L.contract.of (record_fields L.contract (slot_at L.contract (first_contract R L) b c))
 
-        go : (z : Bool) → is_there (cond z none (some r)) ≡ true → contract_in (cond z none (some r)) ≡ r
+        go : (z : Bool) → is_there (cond z None (Some r)) ≡ true → contract_in (cond z None (Some r)) ≡ r
         go true f = absurd (false≢true f)
         go false f = refl

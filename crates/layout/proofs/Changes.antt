@@ -1,7 +1,7 @@
 -- What a change of the facts does to the bytes that hold them, over any rules and layout. Assumes nothing.
+use Rattle.std.specs.Prelude.{Option, None, Some}
 use mathlib.Core.Path.{◌≡◌, refl, sym, ap, ap₂, ◌∙◌}
 use mathlib.Core.List.{List, [], ◌∷◌, ◌++◌, append_assoc, append-nil}
-use mathlib.Core.Option.{Option, none, some}
 use Prim.Native.Nat.{ℕ, zero, suc, ◌+◌, ◌*◌, ◌≤◌, ◌<◌}
 use native.Mathlib.Nat.{sub-zero}
 use native.Mathlib.Omega.{arith}
@@ -26,18 +26,18 @@ use Rattle.layout.proofs.RoundTrips.{length-header, length-contracts}
 use Rattle.layout.specs.Layout.{Layout, first_contract, first_row, ledger_length, header_bytes, contract_bytes, row_bytes, bytes_of}
 
 -- the contracts by number, with k under the number c
-listed-put : (n : ℕ) (cs : Contracts) (c : ℕ) (k : Contract) → listed n (put_contract cs c k) ≡ set (listed n cs) c (some k)
+listed-put : (n : ℕ) (cs : Contracts) (c : ℕ) (k : Contract) → listed n (put_contract cs c k) ≡ set (listed n cs) c (Some k)
 unfolding put_contract
 listed-put n cs c k =
     listed-set n cs (put_contract cs c k) c (λ d h. rw (no_eq d c h)) ∙ ap (λ (o : Option Contract). set (listed n cs) c o) (rw (yes-eq c c refl))
 
-free-listed : {A : Type 0} (n : ℕ) → listed {A = Option A} n (λ i. none) ≡ replicate n none
+free-listed : {A : Type 0} (n : ℕ) → listed {A = Option A} n (λ i. None) ≡ replicate n None
 free-listed zero = refl
-free-listed {A} (suc n) = ap (λ (os : List (Option A)). none ∷ os) (free-listed n)
+free-listed {A} (suc n) = ap (λ (os : List (Option A)). None ∷ os) (free-listed n)
 
-free-places : {A : Type 0} (n : ℕ) → places {A = A} n [] ≡ replicate n none
+free-places : {A : Type 0} (n : ℕ) → places {A = A} n [] ≡ replicate n None
 unfolding places
-free-places n = ap (λ (m : ℕ). replicate m none) (sub-zero n)
+free-places n = ap (λ (m : ℕ). replicate m None) (sub-zero n)
 
 module _ (R : Rules) (L : Layout) where
   -- the bytes before the rows
@@ -61,11 +61,11 @@ module _ (R : Rules) (L : Layout) where
     -- the row x comes in before place i
     pub row-inserted : (x : Row) (i : ℕ) → i ≤ length l.rows → length l.rows < row_count
         → bytes_of R L (ledger_with_rows l (inserted i x l.rows))
-        ≡ on_part (first_row R L) (first_row R L + suc (length l.rows) * size (whole L.row)) (insert_at (i * size (whole L.row)) (slot_bytes L.row (some x))) (bytes_of R L l)
+        ≡ on_part (first_row R L) (first_row R L + suc (length l.rows) * size (whole L.row)) (insert_at (i * size (whole L.row)) (slot_bytes L.row (Some x))) (bytes_of R L l)
     row-inserted x i h m =
         front-rows l (inserted i x l.rows)
         ∙ sym (places-insert L.row aligned (front l) [] row_count (first_row R L) (length_front l) l.rows x i h m)
-        ∙ ap (on_part (first_row R L) (first_row R L + suc (length l.rows) * size (whole L.row)) (insert_at (i * size (whole L.row)) (slot_bytes L.row (some x))))
+        ∙ ap (on_part (first_row R L) (first_row R L + suc (length l.rows) * size (whole L.row)) (insert_at (i * size (whole L.row)) (slot_bytes L.row (Some x))))
         (sym (front-rows l l.rows))
 
     -- the row at place i goes
@@ -80,22 +80,22 @@ module _ (R : Rules) (L : Layout) where
 
     -- the row x comes in the stead of that at place i
     pub row-replaced : (x : Row) (i : ℕ) → i < length l.rows → length l.rows ≤ row_count
-        → bytes_of R L (ledger_with_rows l (set l.rows i x)) ≡ replace_at (first_row R L + i * size (whole L.row)) (slot_bytes L.row (some x)) (bytes_of R L l)
+        → bytes_of R L (ledger_with_rows l (set l.rows i x)) ≡ replace_at (first_row R L + i * size (whole L.row)) (slot_bytes L.row (Some x)) (bytes_of R L l)
     row-replaced x i h m =
         front-rows l (set l.rows i x)
         ∙ sym (places-replace L.row aligned (front l) [] row_count (first_row R L) (length_front l) l.rows x i h m)
-        ∙ ap (replace_at (first_row R L + i * size (whole L.row)) (slot_bytes L.row (some x))) (sym (front-rows l l.rows))
+        ∙ ap (replace_at (first_row R L + i * size (whole L.row)) (slot_bytes L.row (Some x))) (sym (front-rows l l.rows))
 
   -- ---- contracts and the header
 
   -- the contract k comes under the number c
   pub contract-put : (l : Ledger) (c : ℕ) (k : Contract) → c < R.contract_limit
       → bytes_of R L (record { territory = l.territory; contracts = put_contract l.contracts c k; rows = l.rows; claims = l.claims; pence = l.pence })
-      ≡ replace_at (first_contract R L + c * size (whole L.contract)) (slot_bytes L.contract (some k)) (bytes_of R L l)
+      ≡ replace_at (first_contract R L + c * size (whole L.contract)) (slot_bytes L.contract (Some k)) (bytes_of R L l)
   unfolding bytes_of
   contract-put l c k h =
       ap (λ (os : List (Option Contract)). header_bytes R L l ++ (array_out L.contract os ++ row_bytes R L l)) (listed-put R.contract_limit l.contracts c k)
-      ∙ sym (array-replace L.contract (header_bytes R L l) (row_bytes R L l) (listed R.contract_limit l.contracts) (some k) c (first_contract R L) (length-header R L l)
+      ∙ sym (array-replace L.contract (header_bytes R L l) (row_bytes R L l) (listed R.contract_limit l.contracts) (Some k) c (first_contract R L) (length-header R L l)
       (omega (arith, length-listed R.contract_limit l.contracts)))
 
   -- the header is written over another

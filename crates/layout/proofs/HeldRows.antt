@@ -1,8 +1,8 @@
 -- The rows of a well-formed ledger, read off their slots. Assumes nothing.
+use Rattle.std.specs.Prelude.{Option, None, Some}
 use mathlib.Core.Path.{◌≡◌, sym, ap, ◌∙◌}
 use mathlib.Core.Bool.{Bool, true, false, cond}
 use mathlib.Core.List.{List}
-use mathlib.Core.Option.{Option, none, some}
 use Prim.Native.Nat.{ℕ, ◌≤◌, ◌<◌}
 use native.Mathlib.Omega.{arith}
 use lib.Dec.{eqb}
@@ -35,7 +35,7 @@ module _ {R : Rules} {L : Layout} (laws : Lawful R L) (b : List ℕ) (f : is_wel
   pub rows-most : length rows ≤ row_count
   rows-most = (unpacked-well-formed laws b tests).count
 
-  slot_held : (i : ℕ) → i < row_count → get_or (row_slots R L b) i none ≡ slot_in L.row (row_slot_at R L b i)
+  slot_held : (i : ℕ) → i < row_count → get_or (row_slots R L b) i None ≡ slot_in L.row (row_slot_at R L b i)
   unfolding row_slots
   slot_held i h = slot-holds L.row (row-whole laws) row_count (first_row R L) b (rows_inside laws b formed-length) i h
 
@@ -48,10 +48,10 @@ module _ {R : Rules} {L : Layout} (laws : Lawful R L) (b : List ℕ) (f : is_wel
   unfolding ledger_of slot_in row_at
   row-held i d h =
       let m : i < row_count = omega (arith, rows-most) in
-      let s : slot_in L.row (row_slot_at R L b i) ≡ some (get_or rows i d) =
-      sym (slot_held i m) ∙ ap (λ (os : List (Option Row)). get_or os i none) rows-first ∙ place-held row_count rows d i h in
+      let s : slot_in L.row (row_slot_at R L b i) ≡ Some (get_or rows i d) =
+      sym (slot_held i m) ∙ ap (λ (os : List (Option Row)). get_or os i None) rows-first ∙ place-held row_count rows d i h in
       go (eqb (get_or (row_slot_at R L b i) 0 0) 0) s
     where
-      go : (z : Bool) → cond z none (some (record_of L.row (row_slot_at R L b i))) ≡ some (get_or rows i d) → record_of L.row (row_slot_at R L b i) ≡ get_or rows i d
+      go : (z : Bool) → cond z None (Some (record_of L.row (row_slot_at R L b i))) ≡ Some (get_or rows i d) → record_of L.row (row_slot_at R L b i) ≡ get_or rows i d
       go true s = let n : ◌≡◌ {A = ℕ} 0 1 = cc in let y : ⊥ = omega arith in absurd y
       go false s = cc

@@ -1,9 +1,9 @@
 -- Packing then unpacking gives the facts, and unpacking then packing a well-formed ledger gives its bytes: for any layout that keeps its
 -- laws. Assumes nothing.
+use Rattle.std.specs.Prelude.{Option, None, Some}
 use mathlib.Core.Path.{◌≡◌, refl, sym, ap, ap₂, ◌∙◌, subst, fun_ext}
 use mathlib.Core.Bool.{Bool, true}
 use mathlib.Core.List.{List, [], ◌∷◌, ◌++◌, map, append-nil}
-use mathlib.Core.Option.{Option, none, some}
 use mathlib.Core.Logic.{◌↔◌}
 use Prim.Native.Nat.{ℕ, zero, suc, ◌+◌, ◌-◌, ◌*◌, ◌^◌, ◌≤◌, ◌<◌}
 use native.Mathlib.Omega.{arith}
@@ -43,19 +43,19 @@ use Rattle.layout.proofs.LayoutLaws.{row-facts, row-test, Tested, tested, tests-
 
 module _ {A : Type 0} (k : RecordLayout A) (test : List ℕ → Bool) where
   -- what each record passes, its slot passes
-  listed-passes : (n : ℕ) (f : ℕ → Option A) → ((i : ℕ) (a : A) → f i ≡ some a → test (k.values a) ≡ true) → every (map (passes k test) (listed n f)) ≡ true
+  listed-passes : (n : ℕ) (f : ℕ → Option A) → ((i : ℕ) (a : A) → f i ≡ Some a → test (k.values a) ≡ true) → every (map (passes k test) (listed n f)) ≡ true
   listed-passes zero f h = refl
   listed-passes (suc n) f h = and_yes _ _ (go (f 0) refl) (listed-passes n (λ i. f (suc i)) (λ i a e. h (suc i) a e))
     where
       go : (o : Option A) → f 0 ≡ o → passes k test o ≡ true
-      go none e = refl
-      go (some a) e = h 0 a e
+      go None e = refl
+      go (Some a) e = h 0 a e
 
-  numbered-passes : (os : List (Option A)) → every (map (passes k test) os) ≡ true → (i : ℕ) (a : A) → numbered os i ≡ some a → test (k.values a) ≡ true
+  numbered-passes : (os : List (Option A)) → every (map (passes k test) os) ≡ true → (i : ℕ) (a : A) → numbered os i ≡ Some a → test (k.values a) ≡ true
   unfolding numbered
   numbered-passes [] e i a h = let z : ◌≡◌ {A = ℕ} 0 1 = cc in let y : ⊥ = omega arith in absurd y
-  numbered-passes (none ∷ os) e zero a h = let z : ◌≡◌ {A = ℕ} 0 1 = cc in let y : ⊥ = omega arith in absurd y
-  numbered-passes (some x ∷ os) e zero a h =
+  numbered-passes (None ∷ os) e zero a h = let z : ◌≡◌ {A = ℕ} 0 1 = cc in let y : ⊥ = omega arith in absurd y
+  numbered-passes (Some x ∷ os) e zero a h =
       let p : x ≡ a = cc in
       subst (λ (y : A). test (k.values y) ≡ true) p (and_left (test (k.values x)) _ e)
   numbered-passes (o ∷ os) e (suc i) a h = numbered-passes os (and_right (passes k test o) _ e) i a h
@@ -64,26 +64,26 @@ module _ {A : Type 0} (k : RecordLayout A) (test : List ℕ → Bool) where
   unfolding places
   places-pass n xs a = go xs (n - length xs) a
     where
-      go : (ys : List A) (m : ℕ) → All (λ x. test (k.values x) ≡ true) ys → every (map (passes k test) (map some ys ++ lib.ListN.replicate m none)) ≡ true
+      go : (ys : List A) (m : ℕ) → All (λ x. test (k.values x) ≡ true) ys → every (map (passes k test) (map Some ys ++ lib.ListN.replicate m None)) ≡ true
       go [] zero b = refl
       go [] (suc m) b = go [] m tt
       go (y ∷ ys) m b = and_yes _ _ b.0 (go ys m b.1)
 
   held-pass : (os : List (Option A)) → every (map (passes k test) os) ≡ true → All (λ x. test (k.values x) ≡ true) (held os)
   held-pass [] e = tt
-  held-pass (none ∷ os) e = held-pass os e
-  held-pass (some x ∷ os) e = (and_left (test (k.values x)) _ e, held-pass os (and_right (test (k.values x)) _ e))
+  held-pass (None ∷ os) e = held-pass os e
+  held-pass (Some x ∷ os) e = (and_left (test (k.values x)) _ e, held-pass os (and_right (test (k.values x)) _ e))
 
 -- an open contract, by its slot
-open-contract : (cs : Contracts) (c : ℕ) → is_open cs c ≡ true → cs c ≡ some (contract_at cs c)
+open-contract : (cs : Contracts) (c : ℕ) → is_open cs c ≡ true → cs c ≡ Some (contract_at cs c)
 unfolding is_open contract_at
 open-contract cs c e = go (cs c) e
   where
-    go : (o : Option Contract) → is_there o ≡ true → o ≡ some (contract_in o)
-    go none h = absurd (mathlib.Core.Bool.false≢true h)
-    go (some k) h = refl
+    go : (o : Option Contract) → is_there o ≡ true → o ≡ Some (contract_in o)
+    go None h = absurd (mathlib.Core.Bool.false≢true h)
+    go (Some k) h = refl
 
-slot-contract : (cs : Contracts) (c : ℕ) (k : Contract) → cs c ≡ some k → (is_open cs c ≡ true) × (contract_at cs c ≡ k)
+slot-contract : (cs : Contracts) (c : ℕ) (k : Contract) → cs c ≡ Some k → (is_open cs c ≡ true) × (contract_at cs c ≡ k)
 unfolding is_open contract_at
 slot-contract cs c k e = rw e (refl, refl)
 

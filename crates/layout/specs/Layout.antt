@@ -1,6 +1,5 @@
 -- A packed ledger, by its layout: which bytes are well formed, which facts they hold, and the bytes that hold given facts. Assumes nothing.
-use Rattle.std.specs.Prelude.{Bool, not, ◌&&◌, ◌||◌, List, [], ◌∷◌, ◌++◌, map, ℕ, ◌+◌, ◌*◌, leb, ltb, eqb, length, get_or, drop}
-use Rattle.std.proofs.Math.Option.{Option}
+use Rattle.std.specs.Prelude.{Bool, not, ◌&&◌, ◌||◌, List, [], ◌∷◌, ◌++◌, map, ℕ, ◌+◌, ◌*◌, leb, ltb, eqb, length, get_or, drop, Option}
 use Rattle.std.proofs.Math.Pow.{are_bytes}
 use Rattle.limits.specs.Limits.{row_count, most_claims}
 use Rattle.basics.specs.Tests.{every}

@@ -1,10 +1,9 @@
 -- Document 01, "The packed ledger", with paper 1's rows and paper 5's contracts: a ledger with a contract and a row, and its bytes to the end of
 -- that row. Assumes nothing.
-use Rattle.std.specs.Prelude.{◌≡◌, List, [], ◌∷◌, ◌++◌, ℕ, take, replicate}
+use Rattle.std.specs.Prelude.{◌≡◌, List, [], ◌∷◌, ◌++◌, ℕ, take, replicate, Some}
 use Rattle.rates.specs.declared.Fuel.TheVariants.{Gas}
 use Rattle.rates.specs.declared.Kind.TheVariants.{Fixed}
 use Rattle.rates.specs.declared.Certificate.TheVariants.{Qhs}
-use Rattle.rates.specs.declared.Amendment.TheVariants.{Amended}
 use Rattle.rates.specs.declared.Contract.{Contract}
 use Rattle.model.specs.declared.Row.{Row}
 use Rattle.model.specs.OpenContracts.{no_contracts, put_contract}
@@ -14,7 +13,7 @@ use Rattle.layout.specs.Present.{bytes}
 -- gas, its price fixed on day 485, entered on day 851, QHS from day 511 on; amended with the original end 790, its price fixed on day 600, entered on
 -- day 792
 unfoldable pub example_contract : Contract
-example_contract = record { fuel = Gas; kind = Fixed 485 851; certificate = Qhs 511; amendment = Amended 790 600 792 }
+example_contract = record { fuel = Gas; kind = Fixed 485 851; certificate = Qhs 511; amendment = Some (record { original_end_day = 790; price_fix_day = 600; entry_day = 792 }) }
 
 -- contract 5, days 511 to 515, 100,000,000 kWh, of these 60,000,000 in the ETII share and 30,000,000 in the QHS share, R 40,000, S 999,999,
 -- 13,875,160,000,000 ticks

@@ -1,4 +1,5 @@
 -- The numbers of a contract that keeps the ranges are those that it was made from. Assumes nothing.
+use Rattle.std.specs.Prelude.{Option, Some, None}
 use mathlib.Core.Path.{◌≡◌, refl, sym}
 use mathlib.Core.Logic.{◌≢◌}
 use mathlib.Core.Bool.{Bool, true, false, not, cond, ◌&&◌, ◌||◌, true≢false}
@@ -12,10 +13,10 @@ use Rattle.rates.specs.declared.Fuel.TheVariants.{Electricity, Gas}
 use Rattle.rates.specs.declared.Kind.{Kind}
 use Rattle.rates.specs.declared.Kind.TheVariants.{Fixed, Variable, Flexible, Index}
 use Rattle.rates.specs.declared.Certificate.{Certificate}
-use Rattle.rates.specs.declared.Certificate.TheVariants.{None, Etii, Qhs}
+use Rattle.rates.specs.declared.Certificate.TheVariants as certificate
+use Rattle.rates.specs.declared.Certificate.TheVariants.{Etii, Qhs}
 use Rattle.rates.specs.declared.Amendment.{Amendment}
-use Rattle.rates.specs.declared.Amendment.TheVariants.{Unamended, Amended}
-use Rattle.model.specs.Codes.{fuel_of, fuel_code, kind_of, kind_code, price_fix_day_of, entry_day_of, certificate_of, class_code, effective_day_of, is_fixed, amendment_of, amendment_flag_of, original_end_day_of, amended_price_fix_day_of, amended_entry_day_of, is_amended}
+use Rattle.model.specs.Codes.{fuel_of, fuel_code, kind_of, kind_code, price_fix_day_of, entry_day_of, certificate_of, class_code, effective_day_of, is_fixed, amendment_with, amendment_of, amendment_flag_of, original_end_day_of, amended_price_fix_day_of, amended_entry_day_of, is_amended}
 use Rattle.model.specs.PresentRules.{bad_days, bad_effective, bad_amendment_days, bad_amendment}
 
 -- ---- from numbers and back
@@ -70,7 +71,7 @@ class-day class effective h b = either (eqb class 1) (λ e. rw e) (λ e. either 
         eq_yes effective 0 (not-no _ (rw z at b))
 
 -- an amendment's four numbers
-pub record AmendmentNumbers (a : Amendment) (flag end fix entry : ℕ) : Type 0 where
+pub record AmendmentNumbers (a : Option Amendment) (flag end fix entry : ℕ) : Type 0 where
   pub flags : amendment_flag_of a ≡ flag
   pub ends : original_end_day_of a ≡ end
   pub fixes : amended_price_fix_day_of a ≡ fix
@@ -81,7 +82,7 @@ unfolding bad_amendment
 amendment-numbers kind flag end fix entry h = go (eqb flag 0) refl h
   where
     go : (b : Bool) → eqb flag 0 ≡ b → cond b (not (eqb end 0 && (eqb fix 0 && eqb entry 0))) (ltb 1 flag || (not (eqb kind 0) || bad_amendment_days end fix entry)) ≡ false
-        → AmendmentNumbers (cond b Unamended (Amended end fix entry)) flag end fix entry
+        → AmendmentNumbers (cond b None (Some (amendment_with end fix entry))) flag end fix entry
     go true e h =
         let zeros = not-no _ h in
         let days = and_right (eqb end 0) _ zeros in
@@ -109,13 +110,13 @@ kind-of-code Flexible = refl
 kind-of-code Index = refl
 
 pub certificate-of-code : (certificate : Certificate) → certificate_of (class_code certificate) (effective_day_of certificate) ≡ certificate
-certificate-of-code None = refl
+certificate-of-code certificate.None = refl
 certificate-of-code (Etii effective) = refl
 certificate-of-code (Qhs effective) = refl
 
-pub amendment-of-numbers : (amendment : Amendment) → amendment_of (amendment_flag_of amendment) (original_end_day_of amendment) (amended_price_fix_day_of amendment) (amended_entry_day_of amendment) ≡ amendment
-amendment-of-numbers Unamended = refl
-amendment-of-numbers (Amended end fix entry) = refl
+pub amendment-of-numbers : (amendment : Option Amendment) → amendment_of (amendment_flag_of amendment) (original_end_day_of amendment) (amended_price_fix_day_of amendment) (amended_entry_day_of amendment) ≡ amendment
+amendment-of-numbers None = refl
+amendment-of-numbers (Some amendment) = refl
 
 -- ---- fixed kinds, and contracts that aren't amended
 
@@ -125,6 +126,6 @@ fixed-code Variable e = absurd (true≢false (sym e))
 fixed-code Flexible e = absurd (true≢false (sym e))
 fixed-code Index e = absurd (true≢false (sym e))
 
-pub not-amended : (amendment : Amendment) → is_amended amendment ≡ false → amendment ≡ Unamended
-not-amended Unamended e = refl
-not-amended (Amended end fix entry) e = absurd (true≢false e)
+pub not-amended : (amendment : Option Amendment) → is_amended amendment ≡ false → amendment ≡ None
+not-amended None e = refl
+not-amended (Some amendment) e = absurd (true≢false e)

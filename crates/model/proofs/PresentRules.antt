@@ -1,4 +1,5 @@
 -- The rules in force keep the laws that the proofs use. Assumes nothing.
+use Rattle.std.specs.Prelude.{None}
 use mathlib.Core.Path.{◌≡◌, refl, ap, ◌∙◌}
 use mathlib.Core.Bool.{true, false, not, ◌&&◌}
 use mathlib.Core.List.{List, [], ◌∷◌}
@@ -8,14 +9,13 @@ use lib.Dec.{T, ltb, leb}
 use Rattle.limits.specs.Limits.{highest_price, most_kwh_stored, contract_count, row_count, most_claims}
 use borrow.Author.Tests.{le-ltb}
 use Rattle.basics.proofs.Tests.{not-no, no-not, not_yes, lt_no, lt_yes, le-no, le_yes, yes_le, or-no-left, or-no-right, and-false, all-every}
-use Rattle.rates.specs.declared.Amendment.TheVariants as amendment
 use Rattle.rates.specs.declared.Contract.{Contract}
 use Rattle.rates.specs.TermsTaken.{terms_for, crosses_end}
 use Rattle.rates.proofs.TermsTaken.{on-or-before}
 use Rattle.amounts.specs.declared.Bill.{Bill}
 use Rattle.amounts.specs.Amounts.{Rateable, amount, by_terms}
 use Rattle.amounts.proofs.AmountBounds.{amount-capped, amount-low}
-use Rattle.model.specs.Codes.{kind_code, is_fixed, opening, certify, amend}
+use Rattle.model.specs.Codes.{kind_code, is_fixed, amendment_with, opening, certify, amend}
 use Rattle.model.specs.ContractNumbers.{numbers_of_contract, contract_of_numbers, fuel_in, kind_in, price_fix_day_in, entry_day_in, class_in, effective_day_in, amendment_flag_in, original_end_day_in, amended_price_fix_day_in, amended_entry_day_in}
 use Rattle.model.specs.OpenContracts.{contract_at, is_open}
 use Rattle.model.specs.declared.Call.{Call}
@@ -169,11 +169,11 @@ module _ (k : Contract) (end fix entry : ℕ) (b : Bill) (by_end : b.last ≤ en
         inside = and-false (leb b.first end) (ltb end b.last) (le-ltb end b.last by_end);
       })
 
-  amended-amount : k.amendment ≡ amendment.Unamended → bill_ok k b ≡ true → by_terms amount (amend k end fix entry) b ≡ by_terms amount k b
+  amended-amount : k.amendment ≡ None → bill_ok k b ≡ true → by_terms amount (amend k end fix entry) b ≡ by_terms amount k b
   unfolding terms_for amend
   amended-amount none e =
       let days = span-days b.first b.last (bill-ranges k b e).span in
-      rw (on-or-before end fix entry k.kind b.first (omega (arith, days)), none)
+      rw (on-or-before (amendment_with end fix entry) k.kind b.first (omega (arith, days)), none)
 
 -- ---- the accepted calls
 

@@ -1,4 +1,5 @@
 -- R of an accepted bill or rebill is the price of each day of its span. Assumes nothing.
+use Rattle.std.specs.Prelude.{Option, Some, None}
 use mathlib.Core.Path.{◌≡◌, refl, sym, ap}
 use mathlib.Core.Bool.{Bool, true, false, not, cond}
 use mathlib.Core.List.{List}
@@ -14,7 +15,6 @@ use Rattle.rates.specs.declared.Fuel.{Fuel}
 use Rattle.rates.specs.declared.Kind.{Kind}
 use Rattle.rates.specs.declared.Kind.TheVariants.{Fixed, Variable, Flexible, Index}
 use Rattle.rates.specs.declared.Amendment.{Amendment}
-use Rattle.rates.specs.declared.Amendment.TheVariants.{Unamended, Amended}
 use Rattle.rates.specs.TermsTaken.{kind_taken, terms_for, crosses_end}
 use Rattle.rates.proofs.TermsTaken.{one-kind}
 use Rattle.model.specs.OpenContracts.{contract_at}
@@ -48,12 +48,12 @@ module _ (first last : ℕ) (spans : bad_span first last ≡ false) where
   one_entry fuel Index = monthly first_index_entry
 
 -- the kind that a bill takes isn't monthly where its contract's isn't
-taken-months : (amendment : Amendment) (kind : Kind) (day first last : ℕ) → bad_months kind first last ≡ false → bad_months (kind_taken amendment kind day) first last ≡ false
+taken-months : (amendment : Option Amendment) (kind : Kind) (day first last : ℕ) → bad_months kind first last ≡ false → bad_months (kind_taken amendment kind day) first last ≡ false
 unfolding bad_months
-taken-months Unamended kind day first last e = e
-taken-months (Amended end fix entry) kind day first last e = go (leb day end)
+taken-months None kind day first last e = e
+taken-months (Some amendment) kind day first last e = go (leb day amendment.original_end_day)
   where
-    go : (b : Bool) → bad_months (cond b kind (Fixed fix entry)) first last ≡ false
+    go : (b : Bool) → bad_months (cond b kind (Fixed amendment.price_fix_day amendment.entry_day)) first last ≡ false
     go true = e
     go false = refl
 

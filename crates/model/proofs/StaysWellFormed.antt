@@ -1,9 +1,9 @@
 -- Each call leaves a well-formed ledger well formed, and so does every list of calls. Assumes nothing.
+use Rattle.std.specs.Prelude.{None}
 use mathlib.Core.Path.{◌≡◌, refl, sym, ap, ◌∙◌}
 use mathlib.Core.Logic.{◌≢◌}
 use mathlib.Core.Bool.{Bool, true, false, not, cond, ◌&&◌, false≢true, true≢false}
 use mathlib.Core.List.{List, [], ◌∷◌}
-use mathlib.Core.Option.{none}
 use Prim.Native.Nat.{ℕ, suc, ◌+◌, ◌<◌, ◌≤◌, zero-le}
 use native.Mathlib.Omega.{arith}
 use lib.Dec.{eqb}
@@ -61,7 +61,7 @@ module _ (R : Rules) (ok : RulesLaws R) where
   row_other : (cs : Contracts) (c : ℕ) (k : Contract) (x : Row) → x.bill.contract ≢ c → RowOk R cs x → RowOk R (put_contract cs c k) x
   row_other cs c k x n o = row_kept cs (put_contract cs c k) x o (kept-other R cs c k x.bill n (bill-of o))
 
-  numbers-put : (cs : Contracts) (c : ℕ) (k : Contract) → c < R.contract_limit → ((d : ℕ) → R.contract_limit ≤ d → cs d ≡ none) → (d : ℕ) → R.contract_limit ≤ d → put_contract cs c k d ≡ none
+  numbers-put : (cs : Contracts) (c : ℕ) (k : Contract) → c < R.contract_limit → ((d : ℕ) → R.contract_limit ≤ d → cs d ≡ None) → (d : ℕ) → R.contract_limit ≤ d → put_contract cs c k d ≡ None
   unfolding put_contract
   numbers-put cs c k h f d i = rw (no_eq d c (omega arith)) (f d i)
 

@@ -1,13 +1,12 @@
 -- Document 01, "Well formed", with paper 1's shares, paper 2's rows across months and paper 5's amendments: held rows and open contracts on
 -- either side of the ranges. Assumes nothing.
-use Rattle.std.specs.Prelude.{◌≡◌, Bool, true, false, List, [], ◌∷◌, ◌++◌, map, ℕ, ◌+◌, ◌≤◌}
+use Rattle.std.specs.Prelude.{◌≡◌, Bool, true, false, List, [], ◌∷◌, ◌++◌, map, ℕ, ◌+◌, ◌≤◌, Option, Some, None}
 use Rattle.limits.specs.Limits.{most_kwh_stored}
 use Rattle.rates.specs.declared.Fuel.TheVariants.{Electricity}
 use Rattle.rates.specs.declared.Kind.{Kind}
 use Rattle.rates.specs.declared.Kind.TheVariants.{Fixed, Variable, Flexible, Index}
-use Rattle.rates.specs.declared.Certificate.TheVariants.{None}
+use Rattle.rates.specs.declared.Certificate.TheVariants as certificate
 use Rattle.rates.specs.declared.Amendment.{Amendment}
-use Rattle.rates.specs.declared.Amendment.TheVariants.{Unamended, Amended}
 use Rattle.rates.specs.declared.Contract.{Contract}
 use Rattle.rates.specs.TermsTaken.{crosses_end}
 use Rattle.amounts.specs.declared.Bill.{Bill}
@@ -16,7 +15,7 @@ use Rattle.model.specs.PresentRules.{contract_ranges, bill_ok}
 -- a held row of a contract of that kind and with that amendment, and whether it keeps the ranges
 pub record HeldBill : Type 0 where
   pub kind : Kind
-  pub amendment : Amendment
+  pub amendment : Option Amendment
   pub first : ℕ
   pub last : ℕ
   pub kwh : ℕ
@@ -28,12 +27,12 @@ pub record HeldBill : Type 0 where
 
 abbrev pub held_bill : Kind → (first last kwh etii qhs reference supply : ℕ) → Bool → HeldBill
 held_bill kind first last kwh etii qhs reference supply kept =
-    record { kind = kind; amendment = Unamended; first = first; last = last; kwh = kwh; etii = etii; qhs = qhs; reference = reference; supply = supply; kept = kept }
+    record { kind = kind; amendment = None; first = first; last = last; kwh = kwh; etii = etii; qhs = qhs; reference = reference; supply = supply; kept = kept }
 
 -- a held row of a fixed contract that is amended with that original end
 abbrev pub amended_bill : (original_end_day_of first last : ℕ) → Bool → HeldBill
 amended_bill end first last kept =
-    record { kind = Fixed 0 0; amendment = Amended end 0 0; first = first; last = last; kwh = 1; etii = 0; qhs = 0; reference = 1; supply = 1; kept = kept }
+    record { kind = Fixed 0 0; amendment = Some (record { original_end_day = end; price_fix_day = 0; entry_day = 0 }); first = first; last = last; kwh = 1; etii = 0; qhs = 0; reference = 1; supply = 1; kept = kept }
 
 -- "486 ≤ first ≤ last ≤ 851", kWh at most 100,000,000, R and S at most 999,999, "R 0 only for flexible"; of paper 1, "A
 -- well-formed row's shares don't exceed its kWh"; of paper 2, rows of variable and index contracts across two months, a quarter and all of
@@ -80,7 +79,7 @@ held_bills =
 
 unfoldable pub keeps_ranges : HeldBill → Bool
 keeps_ranges e = bill_ok
-    (record { fuel = Electricity; kind = e.kind; certificate = None; amendment = e.amendment })
+    (record { fuel = Electricity; kind = e.kind; certificate = certificate.None; amendment = e.amendment })
     (record { contract = 0; first = e.first; last = e.last; kwh = e.kwh; etii = e.etii; qhs = e.qhs; reference = e.reference; supply = e.supply })
 
 -- the numbers of an open contract of Great Britain: fuel, kind, price-fix day, entry day, class, effective day, with those of its amendment

@@ -1,6 +1,5 @@
 -- Document 01, "Well formed", of the ledger's facts: what a call finds and leaves. Assumes nothing.
-use Rattle.std.specs.Prelude.{◌≡◌, true, List, [], ◌∷◌, ℕ, ◌+◌, ◌*◌, ◌^◌, ◌≤◌, ◌<◌, length}
-use Rattle.std.proofs.Math.Option.{none}
+use Rattle.std.specs.Prelude.{◌≡◌, true, List, [], ◌∷◌, ℕ, ◌+◌, ◌*◌, ◌^◌, ◌≤◌, ◌<◌, length, None}
 use Rattle.limits.specs.Limits.{row_count, most_claims, day_values}
 use Rattle.basics.specs.Lists.{All}
 use Rattle.model.specs.declared.Row.{Row}
@@ -29,7 +28,7 @@ pub record WellFormed (R : Rules) (l : Ledger) : Type 0 where
   pub claims : l.claims ≤ most_claims
   pub pence : l.pence < 2 ^ 47
   pub unclaimed : l.claims ≡ 0 → l.pence ≡ 0
-  pub numbers : (c : ℕ) → R.contract_limit ≤ c → l.contracts c ≡ none
+  pub numbers : (c : ℕ) → R.contract_limit ≤ c → l.contracts c ≡ None
   pub contracts : (c : ℕ) → is_open l.contracts c ≡ true → R.contract_ok l.territory (contract_at l.contracts c) ≡ true
   pub count : length l.rows ≤ row_count
   pub rows : All (RowOk R l.contracts) l.rows

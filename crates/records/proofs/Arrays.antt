@@ -1,8 +1,8 @@
 -- Arrays in bytes, with other bytes before and after them: what inserting, removing and replacing a slot does to the bytes.
 -- Assumes nothing.
+use Rattle.std.specs.Prelude.{Option, None, Some}
 use mathlib.Core.Path.{◌≡◌, refl, sym, ap, ap₂, ◌∙◌}
 use mathlib.Core.List.{List, [], ◌∷◌, ◌++◌, map, append_assoc, append-nil}
-use mathlib.Core.Option.{Option, none, some}
 use Prim.Native.Nat.{ℕ, zero, suc, ◌+◌, ◌-◌, ◌*◌, ◌<◌, ◌≤◌}
 use native.Mathlib.Omega.{arith}
 use lib.ListN.{length, take, drop, get_or, set, replicate, length-append, length-drop, length-map, take-append-drop}
@@ -94,17 +94,17 @@ module _ {A : Type 0} (k : RecordLayout A) where
 
   -- slot i goes, and a free slot comes at the end
   pub array-remove : WholeBytes (whole k) → (os : List (Option A)) (i : ℕ) → i < length os
-      → remove_at (i * size (whole k)) (size (whole k)) (array_out k os) ≡ array_out k (removed i os ++ (none ∷ []))
+      → remove_at (i * size (whole k)) (size (whole k)) (array_out k os) ≡ array_out k (removed i os ++ (None ∷ []))
   array-remove e os i h =
       let F : List ℕ = array_out k (take i os) in
       let D : List ℕ = array_out k (drop (suc i) os) in
-      let x : Option A = get_or os i none in
-      ap (λ (xs : List (Option A)). remove_at (i * size (whole k)) (size (whole k)) (array_out k xs)) (split_at os i none h)
+      let x : Option A = get_or os i None in
+      ap (λ (xs : List (Option A)). remove_at (i * size (whole k)) (size (whole k)) (array_out k xs)) (split_at os i None h)
       ∙ ap (remove_at (i * size (whole k)) (size (whole k))) (array-three (take i os) x (drop (suc i) os))
       ∙ remove-pieces F (slot_bytes k x) D (i * size (whole k)) (size (whole k)) (length-take-array os i (omega arith)) (length-pack (whole k) (slot_out k x))
       ∙ ap (λ (b : List ℕ). F ++ (D ++ b)) (sym (free-slot k e))
-      ∙ sym (append_assoc F D (slot_bytes k none)) ∙ ap (λ (b : List ℕ). b ++ slot_bytes k none) (sym (array-append k (take i os) (drop (suc i) os)))
-      ∙ sym (array-last (removed i os) none)
+      ∙ sym (append_assoc F D (slot_bytes k None)) ∙ ap (λ (b : List ℕ). b ++ slot_bytes k None) (sym (array-append k (take i os) (drop (suc i) os)))
+      ∙ sym (array-last (removed i os) None)
 
   -- slot i is replaced, with h before the array and r after it
   pub array-replace : (h r : List ℕ) (os : List (Option A)) (o : Option A) (i from : ℕ) → length h ≡ from → i < length os
@@ -112,12 +112,12 @@ module _ {A : Type 0} (k : RecordLayout A) where
   array-replace h r os o i from hh l =
       let F : List ℕ = array_out k (take i os) in
       let D : List ℕ = array_out k (drop (suc i) os) in
-      let x : Option A = get_or os i none in
+      let x : Option A = get_or os i None in
       let pieces : (p : Option A) → h ++ (array_out k (take i os ++ (p ∷ drop (suc i) os)) ++ r) ≡ (h ++ F) ++ (slot_bytes k p ++ (D ++ r)) =
       λ p. ap (λ (b : List ℕ). h ++ (b ++ r)) (array-three (take i os) p (drop (suc i) os)) ∙ regroup h F (slot_bytes k p) D r in
       let place : length (h ++ F) ≡ from + i * size (whole k) =
       length-append h F ∙ ap₂ (λ (m n : ℕ). m + n) hh (length-take-array os i (omega arith)) in
-      ap (λ (xs : List (Option A)). replace_at (from + i * size (whole k)) (slot_bytes k o) (h ++ (array_out k xs ++ r))) (split_at os i none l)
+      ap (λ (xs : List (Option A)). replace_at (from + i * size (whole k)) (slot_bytes k o) (h ++ (array_out k xs ++ r))) (split_at os i None l)
       ∙ ap (replace_at (from + i * size (whole k)) (slot_bytes k o)) (pieces x)
       ∙ replace-pieces (h ++ F) (slot_bytes k x) (D ++ r) (slot_bytes k o) (from + i * size (whole k)) place (same_size o x)
       ∙ sym (pieces o) ∙ ap (λ (xs : List (Option A)). h ++ (array_out k xs ++ r)) (sym (set_split os i o l))
@@ -143,40 +143,40 @@ map-append {A} {B} f (x ∷ xs) ys = ap (λ (l : List B). f x ∷ l) (map-append
 
 module _ {A : Type 0} (k : RecordLayout A) (e : WholeBytes (whole k)) (h r : List ℕ) (n from : ℕ) (hh : length h ≡ from) where
   -- the bytes up to the slots of xs, those of m slots, and the rest
-  places-parts : (os : List (Option A)) (xs : List A) (m : ℕ) → os ++ replicate m none ≡ places n xs
-      → h ++ (array_out k (places n xs) ++ r) ≡ h ++ (array_out k os ++ (array_out k (replicate m none) ++ r))
+  places-parts : (os : List (Option A)) (xs : List A) (m : ℕ) → os ++ replicate m None ≡ places n xs
+      → h ++ (array_out k (places n xs) ++ r) ≡ h ++ (array_out k os ++ (array_out k (replicate m None) ++ r))
   places-parts os xs m q =
       ap (λ (ps : List (Option A)). h ++ (array_out k ps ++ r)) (sym q)
-      ∙ ap (λ (b : List ℕ). h ++ (b ++ r)) (array-append k os (replicate m none))
-      ∙ ap (λ (b : List ℕ). h ++ b) (append_assoc (array_out k os) (array_out k (replicate m none)) r)
+      ∙ ap (λ (b : List ℕ). h ++ (b ++ r)) (array-append k os (replicate m None))
+      ∙ ap (λ (b : List ℕ). h ++ b) (append_assoc (array_out k os) (array_out k (replicate m None)) r)
 
   ends : (os : List (Option A)) (m : ℕ) → length os ≡ m → from + length (array_out k os) ≡ from + m * size (whole k)
   ends os m l = ap (λ (i : ℕ). from + i) (length-array_out k os ∙ ap (λ (i : ℕ). i * size (whole k)) l)
 
   -- the record x comes in before place i: the part that changes is that of the records and of one free slot
   pub places-insert : (xs : List A) (x : A) (i : ℕ) → i ≤ length xs → length xs < n
-      → on_part from (from + suc (length xs) * size (whole k)) (insert_at (i * size (whole k)) (slot_bytes k (some x))) (h ++ (array_out k (places n xs) ++ r))
+      → on_part from (from + suc (length xs) * size (whole k)) (insert_at (i * size (whole k)) (slot_bytes k (Some x))) (h ++ (array_out k (places n xs) ++ r))
       ≡ h ++ (array_out k (places n (inserted i x xs)) ++ r)
   unfolding places
   places-insert xs x i l m =
-      let os : List (Option A) = map some xs ++ (none ∷ []) in
+      let os : List (Option A) = map Some xs ++ (None ∷ []) in
       let free : ℕ = n - suc (length xs) in
       let one : suc free ≡ n - length xs = omega arith in
-      let old : os ++ replicate free none ≡ places n xs =
-      append_assoc (map some xs) (none ∷ []) (replicate free none) ∙ ap (λ (j : ℕ). map some xs ++ replicate j none) one in
+      let old : os ++ replicate free None ≡ places n xs =
+      append_assoc (map Some xs) (None ∷ []) (replicate free None) ∙ ap (λ (j : ℕ). map Some xs ++ replicate j None) one in
       let many : length (inserted i x xs) ≡ suc (length xs) =
       length-append (take i xs) (x ∷ drop i xs) ∙ omega (arith, length-take-le i xs l, length-drop i xs) in
-      let new : map some (inserted i x xs) ++ replicate free none ≡ places n (inserted i x xs) =
-      ap (λ (j : ℕ). map some (inserted i x xs) ++ replicate (n - j) none) (sym many) in
-      let count : length os ≡ suc (length xs) = length-append (map some xs) (none ∷ []) ∙ omega (arith, length-map xs some) in
-      let slots : inserted i (some x) (map some xs) ≡ map some (inserted i x xs) =
-      ap₂ (λ (p q : List (Option A)). p ++ (some x ∷ q)) (map-take some i xs) (map-drop some i xs) ∙ sym (map-append some (take i xs) (x ∷ drop i xs)) in
-      let f : List ℕ → List ℕ = insert_at (i * size (whole k)) (slot_bytes k (some x)) in
+      let new : map Some (inserted i x xs) ++ replicate free None ≡ places n (inserted i x xs) =
+      ap (λ (j : ℕ). map Some (inserted i x xs) ++ replicate (n - j) None) (sym many) in
+      let count : length os ≡ suc (length xs) = length-append (map Some xs) (None ∷ []) ∙ omega (arith, length-map xs Some) in
+      let slots : inserted i (Some x) (map Some xs) ≡ map Some (inserted i x xs) =
+      ap₂ (λ (p q : List (Option A)). p ++ (Some x ∷ q)) (map-take Some i xs) (map-drop Some i xs) ∙ sym (map-append Some (take i xs) (x ∷ drop i xs)) in
+      let f : List ℕ → List ℕ = insert_at (i * size (whole k)) (slot_bytes k (Some x)) in
       ap (on_part from (from + suc (length xs) * size (whole k)) f) (places-parts os xs free old)
-      ∙ part-pieces h (array_out k os) (array_out k (replicate free none) ++ r) f from (from + suc (length xs) * size (whole k)) hh (ends os (suc (length xs)) count)
-      ∙ ap (λ (b : List ℕ). h ++ (b ++ (array_out k (replicate free none) ++ r)))
-      (array-insert k (map some xs) none (some x) i (omega (arith, length-map xs some)) ∙ ap (array_out k) slots)
-      ∙ sym (places-parts (map some (inserted i x xs)) (inserted i x xs) free new)
+      ∙ part-pieces h (array_out k os) (array_out k (replicate free None) ++ r) f from (from + suc (length xs) * size (whole k)) hh (ends os (suc (length xs)) count)
+      ∙ ap (λ (b : List ℕ). h ++ (b ++ (array_out k (replicate free None) ++ r)))
+      (array-insert k (map Some xs) None (Some x) i (omega (arith, length-map xs Some)) ∙ ap (array_out k) slots)
+      ∙ sym (places-parts (map Some (inserted i x xs)) (inserted i x xs) free new)
 
   -- the record at place i goes: the part that changes is that of the records
   pub places-remove : (xs : List A) (i : ℕ) → i < length xs → length xs ≤ n
@@ -184,26 +184,26 @@ module _ {A : Type 0} (k : RecordLayout A) (e : WholeBytes (whole k)) (h r : Lis
       ≡ h ++ (array_out k (places n (removed i xs)) ++ r)
   unfolding places
   places-remove xs i l m =
-      let os : List (Option A) = map some xs in
+      let os : List (Option A) = map Some xs in
       let free : ℕ = n - length xs in
       let many : length (removed i xs) ≡ length xs - 1 =
       length-append (take i xs) (drop (suc i) xs) ∙ omega (arith, length-take-le i xs (omega arith), length-drop (suc i) xs) in
       let one : suc free ≡ n - (length xs - 1) = omega arith in
-      let new : (map some (removed i xs) ++ (none ∷ [])) ++ replicate free none ≡ places n (removed i xs) =
-      append_assoc (map some (removed i xs)) (none ∷ []) (replicate free none)
-      ∙ ap (λ (j : ℕ). map some (removed i xs) ++ replicate j none) (one ∙ ap (λ (j : ℕ). n - j) (sym many)) in
-      let slots : removed i os ≡ map some (removed i xs) =
-      ap₂ (λ (p q : List (Option A)). p ++ q) (map-take some i xs) (map-drop some (suc i) xs) ∙ sym (map-append some (take i xs) (drop (suc i) xs)) in
+      let new : (map Some (removed i xs) ++ (None ∷ [])) ++ replicate free None ≡ places n (removed i xs) =
+      append_assoc (map Some (removed i xs)) (None ∷ []) (replicate free None)
+      ∙ ap (λ (j : ℕ). map Some (removed i xs) ++ replicate j None) (one ∙ ap (λ (j : ℕ). n - j) (sym many)) in
+      let slots : removed i os ≡ map Some (removed i xs) =
+      ap₂ (λ (p q : List (Option A)). p ++ q) (map-take Some i xs) (map-drop Some (suc i) xs) ∙ sym (map-append Some (take i xs) (drop (suc i) xs)) in
       let f : List ℕ → List ℕ = remove_at (i * size (whole k)) (size (whole k)) in
       ap (on_part from (from + length xs * size (whole k)) f) (places-parts os xs free refl)
-      ∙ part-pieces h (array_out k os) (array_out k (replicate free none) ++ r) f from (from + length xs * size (whole k)) hh (ends os (length xs) (length-map xs some))
-      ∙ ap (λ (b : List ℕ). h ++ (b ++ (array_out k (replicate free none) ++ r)))
-      (array-remove k e os i (omega (arith, length-map xs some)) ∙ ap (λ (ps : List (Option A)). array_out k (ps ++ (none ∷ []))) slots)
-      ∙ sym (places-parts (map some (removed i xs) ++ (none ∷ [])) (removed i xs) free new)
+      ∙ part-pieces h (array_out k os) (array_out k (replicate free None) ++ r) f from (from + length xs * size (whole k)) hh (ends os (length xs) (length-map xs Some))
+      ∙ ap (λ (b : List ℕ). h ++ (b ++ (array_out k (replicate free None) ++ r)))
+      (array-remove k e os i (omega (arith, length-map xs Some)) ∙ ap (λ (ps : List (Option A)). array_out k (ps ++ (None ∷ []))) slots)
+      ∙ sym (places-parts (map Some (removed i xs) ++ (None ∷ [])) (removed i xs) free new)
 
   -- the record x comes in the stead of that at place i
   pub places-replace : (xs : List A) (x : A) (i : ℕ) → i < length xs → length xs ≤ n
-      → replace_at (from + i * size (whole k)) (slot_bytes k (some x)) (h ++ (array_out k (places n xs) ++ r)) ≡ h ++ (array_out k (places n (set xs i x)) ++ r)
+      → replace_at (from + i * size (whole k)) (slot_bytes k (Some x)) (h ++ (array_out k (places n xs) ++ r)) ≡ h ++ (array_out k (places n (set xs i x)) ++ r)
   places-replace xs x i l m =
-      array-replace k h r (places n xs) (some x) i from hh (omega (arith, length-places n xs m))
+      array-replace k h r (places n xs) (Some x) i from hh (omega (arith, length-places n xs m))
       ∙ ap (λ (os : List (Option A)). h ++ (array_out k os ++ r)) (sym (places-set n xs i x l))

@@ -1,7 +1,7 @@
 -- Slots by their number, as a list and as a function: each gives the other back. Assumes nothing.
+use Rattle.std.specs.Prelude.{Option, None}
 use mathlib.Core.Path.{◌≡◌, refl, ap, ap₂}
 use mathlib.Core.List.{List, [], ◌∷◌}
-use mathlib.Core.Option.{Option, none}
 use mathlib.Core.Logic.{◌≢◌}
 use Prim.Native.Nat.{ℕ, zero, suc, ◌<◌, ◌≤◌}
 use native.Mathlib.Omega.{arith}
@@ -27,7 +27,7 @@ module _ {A : Type 0} where
       ap₂ (λ (x : A) (xs : List A). x ∷ xs) (h 0 (λ e. let z : ⊥ = omega arith in z))
       (listed-set n (λ j. f (suc j)) (λ j. g (suc j)) i (λ j m. h (suc j) (λ e. m (let z : j ≡ i = omega arith in z))))
 
-  pub numbered-listed : (n : ℕ) (f : ℕ → Option A) → ((i : ℕ) → n ≤ i → f i ≡ none) → (i : ℕ) → numbered (listed n f) i ≡ f i
+  pub numbered-listed : (n : ℕ) (f : ℕ → Option A) → ((i : ℕ) → n ≤ i → f i ≡ None) → (i : ℕ) → numbered (listed n f) i ≡ f i
   unfolding numbered
   numbered-listed zero f h i = let l : 0 ≤ i = omega arith in rw (h i l)
   numbered-listed (suc n) f h zero = refl
@@ -40,6 +40,6 @@ module _ {A : Type 0} where
   listed-numbered (suc n) [] e = let z : ⊥ = omega arith in absurd z
   listed-numbered (suc n) (o ∷ os) e = ap (λ (xs : List (Option A)). o ∷ xs) (listed-numbered n os (omega arith))
 
-  pub numbered-beyond : (os : List (Option A)) (i : ℕ) → length os ≤ i → numbered os i ≡ none
+  pub numbered-beyond : (os : List (Option A)) (i : ℕ) → length os ≤ i → numbered os i ≡ None
   unfolding numbered
-  numbered-beyond os i h = get_or-eq_default os none h
+  numbered-beyond os i h = get_or-eq_default os None h

@@ -1,8 +1,8 @@
 -- Slot i of an array, read straight off the bytes, and the slots from slot i on. Assumes nothing.
+use Rattle.std.specs.Prelude.{None}
 use mathlib.Core.Path.{◌≡◌, refl, sym, ap, ap₂, ◌∙◌}
 use mathlib.Core.Bool.{Bool, true, false, ◌&&◌}
 use mathlib.Core.List.{List, [], ◌∷◌, ◌++◌, map}
-use mathlib.Core.Option.{none}
 use Prim.Native.Nat.{ℕ, zero, suc, ◌+◌, ◌-◌, ◌*◌, ◌≤◌, ◌<◌}
 use native.Mathlib.Omega.{arith}
 use native.Mathlib.Numerals.{add-one}
@@ -75,7 +75,7 @@ module _ {A : Type 0} (k : RecordLayout A) (e : WholeBytes (whole k)) where
     unfolding slot_at slot_numbers
     slot-numbers i h = slot-at k e n i f b h long ∙ sym (unpack-within b (f + i * size (whole k)) (whole k) e (inside i h))
 
-    pub slot-holds : (i : ℕ) → i < n → get_or (array_in k n (drop f b)) i none ≡ slot_in k (slot_at k f b i)
+    pub slot-holds : (i : ℕ) → i < n → get_or (array_in k n (drop f b)) i None ≡ slot_in k (slot_at k f b i)
     unfolding slot_at slot_numbers
     slot-holds i h = held_at k e n i f b h long ∙ ap (slot_in k) (sym (unpack-within b (f + i * size (whole k)) (whole k) e (inside i h)))
 

@@ -1,9 +1,9 @@
 -- One pass over the slots of an array, with what it holds of the record before in hand, tests what is said over all slots and all pairs of
 -- records: for any kind of record, and whatever is held of it, that the next is compared with. Assumes nothing.
+use Rattle.std.specs.Prelude.{Option, None, Some}
 use mathlib.Core.Path.{◌≡◌, refl, sym, ap₂, ◌∙◌}
 use mathlib.Core.Bool.{Bool, true, false, cond, ◌&&◌, false≢true, true≢false}
 use mathlib.Core.List.{List, [], ◌∷◌, map}
-use mathlib.Core.Option.{Option, none, some}
 use Prim.Native.Nat.{ℕ, zero, suc, ◌+◌}
 use native.Mathlib.Omega.{arith}
 use lib.Dec.{eqb}
@@ -45,11 +45,11 @@ zero-free (x ∷ v) e = and_left (eqb x 0) _ e
 -- ---- free and held slots
 
 module _ {A : Type 0} (k : RecordLayout A) where
-  free_in : (v : List ℕ) → eqb (get_or v 0 0) 0 ≡ true → slot_in k v ≡ none
+  free_in : (v : List ℕ) → eqb (get_or v 0 0) 0 ≡ true → slot_in k v ≡ None
   unfolding slot_in
   free_in v e = rw e
 
-  held_in : (v : List ℕ) → eqb (get_or v 0 0) 0 ≡ false → slot_in k v ≡ some (record_of k v)
+  held_in : (v : List ℕ) → eqb (get_or v 0 0) 0 ≡ false → slot_in k v ≡ Some (record_of k v)
   unfolding slot_in
   held_in v e = rw e
 
@@ -95,7 +95,7 @@ module _ {A : Type 0} (k : RecordLayout A) (ok : A → Bool) where
       and_yes _ _ (free-test v (zero-free v z) ∙ z) (zeros-ok vs (and_right (all_zero v) _ e))
 
   -- no record after a free slot
-  free-after : (before : A → A → Bool) (vs : List (List ℕ)) → every (map test vs) ≡ true → every (map (is_in_order before none) (records k vs)) ≡ true → every (map all_zero vs) ≡ true
+  free-after : (before : A → A → Bool) (vs : List (List ℕ)) → every (map test vs) ≡ true → every (map (is_in_order before None) (records k vs)) ≡ true → every (map all_zero vs) ≡ true
   unfolding is_in_order
   free-after before [] t o = refl
   free-after before (v ∷ vs) t o = either (eqb (get_or v 0 0) 0)
@@ -130,7 +130,7 @@ module _ {A S : Type 0} (k : RecordLayout A) (ok : A → Bool) (hold : A → S) 
 
     module _ (start : S) (laws : Following ok before start hold follows) where
       -- the records after x
-      after-record : (x : A) → ok x ≡ true → (vs : List (List ℕ)) → every (map (test k ok) vs) ≡ true → From (hold x) vs → every (map (is_in_order before (some x)) (records k vs)) ≡ true
+      after-record : (x : A) → ok x ≡ true → (vs : List (List ℕ)) → every (map (test k ok) vs) ≡ true → From (hold x) vs → every (map (is_in_order before (Some x)) (records k vs)) ≡ true
       unfolding is_in_order
       after-record x p [] t f = refl
       after-record x p (v ∷ vs) t f = either (eqb (get_or v 0 0) 0)
@@ -140,7 +140,7 @@ module _ {A S : Type 0} (k : RecordLayout A) (ok : A → Bool) (hold : A → S) 
           let q = held-passes k ok v e (and_left (test k ok v) _ t) in
           rw (held_in k v e) (and_yes _ _ (sym (laws.next x (record_of k v) p q) ∙ g.0) (after-record x p vs (and_right (test k ok v) _ t) g.1)))
 
-      record-after : (x : A) → ok x ≡ true → (vs : List (List ℕ)) → every (map (test k ok) vs) ≡ true → every (map (is_in_order before (some x)) (records k vs)) ≡ true → From (hold x) vs
+      record-after : (x : A) → ok x ≡ true → (vs : List (List ℕ)) → every (map (test k ok) vs) ≡ true → every (map (is_in_order before (Some x)) (records k vs)) ≡ true → From (hold x) vs
       unfolding is_in_order
       record-after x p [] t o = tt
       record-after x p (v ∷ vs) t o = either (eqb (get_or v 0 0) 0)
@@ -177,7 +177,7 @@ module _ {A S : Type 0} (k : RecordLayout A) (ok : A → Bool) (hold : A → S) 
           (λ f.
           let o = rw (free_in k v f) at c.ordered in
           rw f (and_yes _ _ (sym (free-test k ok v f) ∙ and_left (test k ok v) _ c.slots-ok)
-          (free-after k ok before vs (and_right (test k ok v) _ c.slots-ok) (and_left (every (map (is_in_order before none) (records k vs))) _ o))))
+          (free-after k ok before vs (and_right (test k ok v) _ c.slots-ok) (and_left (every (map (is_in_order before None) (records k vs))) _ o))))
           (λ f.
           let x : A = record_of k v in
           let p : test k ok v ≡ true = and_left (test k ok v) _ c.slots-ok in
@@ -186,8 +186,8 @@ module _ {A S : Type 0} (k : RecordLayout A) (ok : A → Bool) (hold : A → S) 
           let t : every (map (test k ok) vs) ≡ true = and_right (test k ok v) _ c.slots-ok in
           let rest : Scanned (hold x) vs = record {
             slots-ok = t;
-            ordered = and_right (every (map (is_in_order before (some x)) (records k vs))) _ o;
-            from = record-after x (held-passes k ok v f p) vs t (and_left (every (map (is_in_order before (some x)) (records k vs))) _ o);
+            ordered = and_right (every (map (is_in_order before (Some x)) (records k vs))) _ o;
+            from = record-after x (held-passes k ok v f p) vs t (and_left (every (map (is_in_order before (Some x)) (records k vs))) _ o);
           } in
           rw f (and_yes _ _ p (and_yes _ _ g.0 (scan-complete (hold x) vs rest))))
 

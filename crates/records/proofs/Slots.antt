@@ -1,8 +1,8 @@
 -- Slots and arrays of slots, written and read again, for any kind of record. Assumes nothing.
+use Rattle.std.specs.Prelude.{Option, None, Some}
 use mathlib.Core.Path.{◌≡◌, refl, sym, ap, ap₂, ◌∙◌, subst}
 use mathlib.Core.Bool.{Bool, true, false, cond}
 use mathlib.Core.List.{List, [], ◌∷◌, ◌++◌, map}
-use mathlib.Core.Option.{Option, none, some}
 use Prim.Native.Nat.{ℕ, zero, suc, ◌+◌, ◌*◌, ◌^◌, ◌≤◌, ◌<◌}
 use native.Mathlib.Omega.{arith}
 use native.Mathlib.Nat.{not-suc-le-zero, le_of_suc-le-suc}
@@ -75,13 +75,13 @@ module _ {A : Type 0} (k : RecordLayout A) (test : List ℕ → Bool) (ok : Reco
   -- written and read again
   pub slot-in-out : (o : Option A) → passes k test o ≡ true → slot_in k (slot_out k o) ≡ o
   unfolding slot_in slot_out
-  slot-in-out none e = refl
-  slot-in-out (some a) e = ap (λ (v : List ℕ). some (k.of v)) (fields_out a e) ∙ ap (λ (x : A). some x) (ok.of_values a e)
+  slot-in-out None e = refl
+  slot-in-out (Some a) e = ap (λ (v : List ℕ). Some (k.of v)) (fields_out a e) ∙ ap (λ (x : A). Some x) (ok.of_values a e)
 
   pub fit-slot_out : (o : Option A) → passes k test o ≡ true → Fit (whole k) (slot_out k o)
   unfolding slot_out
-  fit-slot_out none e = fit-blank (whole k)
-  fit-slot_out (some a) e = (omega arith, fit_append k.widths (k.values a) k.zeros (zeros_for k.zeros) (ok.fits a e) (fit-blank k.zeros))
+  fit-slot_out None e = fit-blank (whole k)
+  fit-slot_out (Some a) e = (omega arith, fit_append k.widths (k.values a) k.zeros (zeros_for k.zeros) (ok.fits a e) (fit-blank k.zeros))
 
   -- read and written again
   pub slot-out-in : (v : List ℕ) → Fit (whole k) v → slot_ok k test v ≡ true → slot_out k (slot_in k v) ≡ v
@@ -98,10 +98,10 @@ module _ {A : Type 0} (k : RecordLayout A) (test : List ℕ → Bool) (ok : Reco
       rest : cond (eqb x 0) (all_zero (x ∷ v)) (test (take n v)) ≡ true
       rest = and_right (all_zero (drop n v)) _ e
 
-      free : eqb x 0 ≡ true → slot_out k (cond (eqb x 0) none (some (k.of (take n v)))) ≡ x ∷ v
+      free : eqb x 0 ≡ true → slot_out k (cond (eqb x 0) None (Some (k.of (take n v)))) ≡ x ∷ v
       free c = rw c (zero-blank (whole k) (x ∷ v) f (subst (λ (b : Bool). cond b (all_zero (x ∷ v)) (test (take n v)) ≡ true) c rest))
 
-      taken : eqb x 0 ≡ false → slot_out k (cond (eqb x 0) none (some (k.of (take n v)))) ≡ x ∷ v
+      taken : eqb x 0 ≡ false → slot_out k (cond (eqb x 0) None (Some (k.of (take n v)))) ≡ x ∷ v
       taken c =
           let ne = eq_no x 0 c in
           let one : x < 2 ^ 1 = f.0 in
@@ -112,9 +112,9 @@ module _ {A : Type 0} (k : RecordLayout A) (test : List ℕ → Bool) (ok : Reco
 
   pub ok-slot_out : (o : Option A) → passes k test o ≡ true → slot_ok k test (slot_out k o) ≡ true
   unfolding slot_out slot_ok
-  ok-slot_out none e =
+  ok-slot_out None e =
       and_yes _ _ (drop-zero (length k.widths) (zeros_for (k.widths ++ k.zeros)) (blank-zero (k.widths ++ k.zeros))) (blank-zero (whole k))
-  ok-slot_out (some a) e =
+  ok-slot_out (Some a) e =
       and_yes _ _
       (ap all_zero (drop_at (k.values a) (zeros_for k.zeros) (length k.widths) (fit_length k.widths (k.values a) (ok.fits a e)))
       ∙ blank-zero k.zeros)
@@ -128,7 +128,7 @@ module _ {A : Type 0} (k : RecordLayout A) (test : List ℕ → Bool) (ok : Reco
       n : ℕ
       n = length k.widths
 
-      go : (c : Bool) → cond c (all_zero (x ∷ v)) (test (take n v)) ≡ true → passes k test (cond c none (some (k.of (take n v)))) ≡ true
+      go : (c : Bool) → cond c (all_zero (x ∷ v)) (test (take n v)) ≡ true → passes k test (cond c None (Some (k.of (take n v)))) ≡ true
       go true h = refl
       go false h = ap test (ok.values_of (take n v) (length_fields k x v f) h) ∙ h
 
@@ -247,11 +247,11 @@ module _ {A : Type 0} (k : RecordLayout A) (e : WholeBytes (whole k)) where
 
   -- and what it holds
   pub held_at : (n i f : ℕ) (b : List ℕ) → i < n → f + n * size (whole k) ≤ length b
-      → get_or (array_in k n (drop f b)) i none ≡ slot_in k (fields b (8 * (f + i * size (whole k))) (whole k))
+      → get_or (array_in k n (drop f b)) i None ≡ slot_in k (fields b (8 * (f + i * size (whole k))) (whole k))
   unfolding array_in
   held_at n i f b h l = go (slots k n (drop f b)) i (omega (arith, length-slots k n (drop f b))) ∙ ap (slot_in k) (slot-at n i f b h l)
     where
-      go : (vs : List (List ℕ)) (j : ℕ) → j < length vs → get_or (map (slot_in k) vs) j none ≡ slot_in k (get_or vs j [])
+      go : (vs : List (List ℕ)) (j : ℕ) → j < length vs → get_or (map (slot_in k) vs) j None ≡ slot_in k (get_or vs j [])
       go [] j m = absurd (not-suc-le-zero m)
       go (v ∷ vs) zero m = refl
       go (v ∷ vs) (suc j) m = go vs j (le_of_suc-le-suc m)

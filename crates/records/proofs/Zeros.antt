@@ -1,8 +1,8 @@
 -- A record of zeros, a free slot and free slots are zero bytes. Assumes nothing.
+use Rattle.std.specs.Prelude.{None}
 use mathlib.Core.Path.{◌≡◌, refl, sym, ap, ap₂, ◌∙◌}
 use mathlib.Core.Bool.{Bool, true, false, false≢true}
 use mathlib.Core.List.{List, [], ◌∷◌, ◌++◌}
-use mathlib.Core.Option.{none}
 use Prim.Native.Nat.{ℕ, zero, suc, ◌+◌, ◌*◌, ◌%◌, ◌^◌, ◌≤◌}
 use native.Mathlib.Omega.{arith}
 use native.Mathlib.Nat.{zero-div}
@@ -46,11 +46,11 @@ unfolding pack
 pack-blank ws e = ap (bytes_of_bits (size ws)) (field_bits-blank ws ∙ ap (λ (n : ℕ). replicate n false) e) ∙ bytes-zero (size ws)
 
 module _ {A : Type 0} (k : RecordLayout A) (e : WholeBytes (whole k)) where
-  pub free-slot : slot_bytes k none ≡ replicate (size (whole k)) 0
+  pub free-slot : slot_bytes k None ≡ replicate (size (whole k)) 0
   unfolding slot_out
   free-slot = pack-blank (whole k) e
 
-  pub free_array : (n : ℕ) → array_out k (replicate n none) ≡ replicate (n * size (whole k)) 0
+  pub free_array : (n : ℕ) → array_out k (replicate n None) ≡ replicate (n * size (whole k)) 0
   unfolding array_out join
   free_array zero = let z : 0 ≡ 0 * size (whole k) = omega arith in ap (λ (m : ℕ). replicate m 0) z
   free_array (suc n) =

@@ -1,6 +1,5 @@
 -- One slot's bytes: whether it is taken, the record that it holds, and the bytes that hold a record. Assumes nothing.
-use Rattle.std.specs.Prelude.{◌≡◌, Bool, not, List, ℕ, ◌+◌, ◌*◌, eqb, get_or, take, drop}
-use Rattle.std.proofs.Math.Option.{some}
+use Rattle.std.specs.Prelude.{◌≡◌, Bool, not, List, ℕ, ◌+◌, ◌*◌, eqb, get_or, take, drop, Some}
 use Rattle.records.specs.Pack.{size, unpack}
 use Rattle.records.specs.Slots.{RecordLayout, whole, record_fields, slot_bytes}
 
@@ -19,7 +18,7 @@ module _ {A : Type 0} (k : RecordLayout A) where
 
   -- the bytes of a taken slot
   unfoldable pub record_bytes : A → List ℕ
-  record_bytes a = slot_bytes k (some a)
+  record_bytes a = slot_bytes k (Some a)
 
   -- the slot is that of the record that it holds
   abbrev pub IsPacked : List ℕ → Type 0

@@ -1,7 +1,6 @@
 -- An array of equal records, each of which may be absent. A slot is one bit that says whether the record is there, the record's
 -- fields, and padding that stays zero; a slot without a record is all zeros. Assumes nothing.
-use Rattle.std.specs.Prelude.{◌≡◌, Bool, true, cond, ◌&&◌, List, ◌∷◌, ◌++◌, map, ℕ, suc, eqb, length, take, drop, get_or}
-use Rattle.std.proofs.Math.Option.{Option, none, some}
+use Rattle.std.specs.Prelude.{◌≡◌, Bool, true, cond, ◌&&◌, List, ◌∷◌, ◌++◌, map, ℕ, suc, eqb, length, take, drop, get_or, Option, None, Some}
 use Rattle.basics.specs.Tests.{every}
 use Rattle.fields.specs.Fields.{Fit}
 use Rattle.records.specs.Pack.{size, WholeBytes, pack, unpack, cut, join}
@@ -32,11 +31,11 @@ module _ {A : Type 0} (k : RecordLayout A) where
 
   -- the numbers of a slot, and what a slot of such numbers holds
   unfoldable pub slot_out : Option A → List ℕ
-  slot_out none = zeros_for whole
-  slot_out (some a) = 1 ∷ (k.values a ++ zeros_for k.zeros)
+  slot_out None = zeros_for whole
+  slot_out (Some a) = 1 ∷ (k.values a ++ zeros_for k.zeros)
 
   unfoldable pub slot_in : List ℕ → Option A
-  slot_in v = cond (eqb (get_or v 0 0) 0) none (some (k.of (record_fields v)))
+  slot_in v = cond (eqb (get_or v 0 0) 0) None (Some (k.of (record_fields v)))
 
   -- the padding is zero; without a record all is zero, and a record's fields pass the test
   unfoldable pub slot_ok : (List ℕ → Bool) → List ℕ → Bool
@@ -44,8 +43,8 @@ module _ {A : Type 0} (k : RecordLayout A) where
 
   -- a record that is there passes the test by its fields
   abbrev pub passes : (List ℕ → Bool) → Option A → Bool
-  passes test none = true
-  passes test (some a) = test (k.values a)
+  passes test None = true
+  passes test (Some a) = test (k.values a)
 
   -- the numbers of the n slots that b begins with, and what they hold
   unfoldable pub slots : ℕ → List ℕ → List (List ℕ)

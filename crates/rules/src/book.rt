@@ -8,7 +8,7 @@ use crate::codes;
 use amounts::Bill;
 use limits::{BOOK_LENGTH, DAY_COUNT, HIGHEST_PRICE};
 use model::Request;
-use rates::{Contract, Fuel, Kind, Terms, terms_for};
+use rates::{Contract, Fuel, Kind, Terms};
 
 // How many days a fuel's fixed prices have, and how many months its variable prices and the index have.
 const DAYS: usize = DAY_COUNT as usize;
@@ -79,7 +79,7 @@ pub fn no_price(kind: Kind, reference: u32) -> bool
 pub fn bill_under(contract: Contract, request: Request, book: &[u32]) -> Bill
     ensures { result ≡ bill_under contract request book.now }
 {
-    let terms = terms_for(contract, request.first);
+    let terms = contract.terms_for(request.first);
     Bill {
         contract: request.contract,
         first: request.first,

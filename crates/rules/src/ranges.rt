@@ -66,7 +66,7 @@ pub fn bad_amendment_days(original_end_day: u32, price_fix_day: u32, entry_day: 
 pub fn not_amendable(contract: Contract) -> bool
     ensures { result ≡ not_amendable contract }
 {
-    !codes::is_fixed(contract.kind) || codes::is_amended(contract.amendment)
+    !codes::is_fixed(contract.kind) || contract.amendment.is_some()
 }
 
 // Not the scheme's first day ≤ first ≤ last ≤ the last day.
@@ -86,22 +86,10 @@ pub fn bad_months(kind: Kind, first: u32, last: u32) -> bool
 }
 
 // Whether a span starts on or before the original end and ends after it.
-pub fn crosses_end(amendment: Amendment, first: u32, last: u32) -> bool
+pub fn crosses_end(amendment: Option<Amendment>, first: u32, last: u32) -> bool
     ensures { result ≡ crosses_end amendment first last }
 {
-    match amendment {
-        Amendment::Unamended => false,
-        Amendment::Amended {
-            original_end_day,
-            price_fix_day: _,
-            entry_day: _,
-        } => {
-            if first <= original_end_day {
-                return original_end_day < last;
-            }
-            false
-        }
-    }
+    amendment.is_some_and(|a| first <= a.original_end_day && a.original_end_day < last)
 }
 
 // kWh, S or WAP is out of range, or a WAP is not 0 where the contract is not flexible.
