@@ -1,9 +1,12 @@
 -- A bill's amount is at most its cap; within the paper's ranges it fits 50 bits, and the rate answered is low. Assumes nothing.
 use Prim.Native.Nat.{ℕ, ◌*◌, ◌^◌, ◌<◌, ◌≤◌}
+use native.Mathlib.Nat.{mul-le-mul_left}
 use native.Mathlib.Omega.{arith}
 use Rattle.limits.specs.Limits.{highest_price, most_kwh_stored}
 use Rattle.rates.specs.declared.Terms.{Terms}
-use Rattle.rates.specs.Rates.{certified_class}
+use Rattle.rates.specs.declared.Fuel.{Fuel}
+use Rattle.rates.specs.declared.Class.{Class}
+use Rattle.rates.specs.Rates.{class_rate, certified_class}
 use Rattle.rates.proofs.WithinCaps.{highest_rate, class-rate-capped, class-rate-low}
 use Rattle.amounts.specs.declared.Bill.{Bill}
 use Rattle.amounts.specs.Amounts.{rest_certificate, bill_at, rate_of, amount, cap, rate, Rateable}
@@ -32,3 +35,7 @@ amount-low terms bill ok =
 
 pub amount-bits : (terms : Terms) (bill : Bill) → Rateable bill → amount terms bill < 2 ^ 50
 amount-bits terms bill ok = omega (arith, amount-low terms bill ok)
+
+-- so many kWh at the rate of a class
+pub kwh_rated : (k : ℕ) (fuel : Fuel) (class : Class) (R S : ℕ) → S ≤ highest_price → k * class_rate fuel class R S ≤ 10 * highest_price * k
+kwh_rated k fuel class R S h = omega (arith, mul-le-mul_left k (class-rate-low fuel class R S h))

@@ -20,7 +20,7 @@ use Rattle.amounts.specs.AmountLaws.{bill_by_stretches, NoChangeInside, SharesRa
 use Rattle.amounts.proofs.Days.{by-day-none, by-day-cong}
 use Rattle.amounts.proofs.Stretches.{sum-over-stretches, one_class}
 use Rattle.amounts.proofs.Certificates.{etii-from, qhs-from, changes, at_most_three, cut}
-use Rattle.amounts.proofs.Shares.{none-given, some-given, certificate-kept, set_aside, shares_whole, bill-without, bill-with, bill-one-price}
+use Rattle.amounts.proofs.Shares.{none-given, some-given, rate-shared, rate-whole, shares_whole, bill-without, bill-with, bill-one-price}
 use Rattle.amounts.proofs.KwhFound.{share-stretches}
 use Rattle.amounts.proofs.AmountBounds.{amount-capped, amount-bits}
 
@@ -47,17 +47,8 @@ module _ (price : Class → ℕ) (terms : Terms) (bill : Bill) where
         by-day-cong price bill.qhs (days_of bill) _ (λ j. qhs_class terms.kind (bill.first + j)) (λ j. qhs-from 0 terms.kind (bill.first + j) zero-le),
       )
 
-rate_without : (terms : Terms) (bill : Bill) → bill.etii ≡ 0 → bill.qhs ≡ 0
-    → rate terms bill ≡ class_rate terms.fuel (class_of terms bill.first) bill.reference bill.supply
-unfolding rate class_of
-rate_without terms bill etii qhs = rw (certificate-kept terms bill (none-given bill etii qhs))
-
-rate_with : (terms : Terms) (bill : Bill) → 0 < bill.etii + bill.qhs → rate terms bill ≡ class_rate terms.fuel Baseline bill.reference bill.supply
-unfolding rate
-rate_with terms bill some = rw (set_aside terms bill (some-given bill some))
-
 pub shares_rated : SharesRated
-shares_rated = record { without_shares = without_shares; rate_without = rate_without; with_shares = with_shares; rate_with = rate_with; whole = shares_whole }
+shares_rated = record { without_shares = without_shares; rate_without = λ terms bill etii qhs. rate-whole terms bill (none-given bill etii qhs); with_shares = with_shares; rate_with = λ terms bill some. rate-shared terms bill (some-given bill some); whole = shares_whole }
 
 -- ---- stretches
 
@@ -120,7 +111,7 @@ unfolding amount cap
 without_change_inside = record {
   no_day_inside = no_day_inside;
   as_before = as_before;
-  kept = λ terms bill days etii qhs same. rw (rate_without terms bill etii qhs) (priced (rate_of terms bill) terms bill days etii qhs same);
+  kept = λ terms bill days etii qhs same. rw (rate-whole terms bill (none-given bill etii qhs)) (priced (rate_of terms bill) terms bill days etii qhs same);
   cap_kept = λ terms bill days etii qhs same. priced (cap_of terms bill) terms bill days etii qhs same;
   shares_kept = shares_kept;
 }

@@ -89,3 +89,5 @@ before-most k n first day h = in-first-most k n (days_before first n day) h (ome
 
 pub before-grows : (k n first day later : ℕ) → day ≤ later → in_first k n (days_before first n day) ≤ in_first k n (days_before first n later)
 before-grows k n first day later h = in-first-grows k n (days_before first n day) (days_before first n later) (omega arith)
+
+pub ruleset kwh_ends = (before-first, after_last, inside, before-most)

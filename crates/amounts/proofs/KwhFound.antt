@@ -15,9 +15,9 @@ use Rattle.rates.specs.declared.Kind.{Kind}
 use Rattle.rates.specs.Rates.{entered_early}
 use Rattle.amounts.specs.declared.Bill.{Bill}
 use Rattle.amounts.specs.declared.KwhByClass.{KwhByClass}
-use Rattle.amounts.specs.Amounts.{days_of, share, has_shares, share_at, bill_at, Rateable}
+use Rattle.amounts.specs.Amounts.{days_of, share, has_shares, share_at, bill_at, rate_of, amount, Rateable}
 use Rattle.amounts.specs.Stretches.{by_stretch, stretches_of}
-use Rattle.amounts.specs.KwhFound.{kwh_before, with_new_minimum, KwhOf}
+use Rattle.amounts.specs.KwhFound.{kwh_before, with_new_minimum, at_prices, KwhOf}
 use Rattle.amounts.proofs.Days.{between_ends, between_first, between-last, in-first-all, before-first, after_last, before-most, before-grows}
 use Rattle.amounts.proofs.Stretches.{sum-over-stretches}
 use Rattle.amounts.proofs.Certificates.{cut}
@@ -50,6 +50,8 @@ module _ (kind : Kind) (bill : Bill) (k day : ℕ) (days : bill.first ≤ bill.l
   from-new-minimum f from before e is-before =
       let new : k - before ≡ with_new_minimum kind bill k day = rw (sym is ∙ f, is-before, e) in
       (new, omega (arith, new-most kind bill k day days))
+
+pub ruleset new_minimum = (ends-before-new-minimum, entered-early-none, from-new-minimum, before-most, before-grows)
 
 -- ---- a share by the stretches of its certificate
 
@@ -89,46 +91,42 @@ module _ (price : Class → ℕ) (kind : Kind) (bill : Bill) (k : ℕ) where
 
 -- ---- what the code finds: without shares by the certificate, and with shares
 
-module _ (terms : Terms) (bill : Bill) (ok : Rateable bill) where
-  abbrev found : (baseline etii old new : ℕ) → KwhByClass
-  found baseline etii old new = record { baseline = baseline; etii = etii; old = old; new = new }
-
+module _ (terms : Terms) (bill : Bill) (k : KwhByClass) (ok : Rateable bill) where
   module _ (none : has_shares bill ≡ false) where
     under : (price : Class → ℕ) (c : Certificate) → terms.certificate ≡ c → bill_at price terms bill ≡ share_at price terms.kind bill (share bill.kwh c)
     under price c e = rw (sym e) (bill-without price terms bill none)
 
-    pub kwh-none : terms.certificate ≡ None → KwhOf terms bill (found bill.kwh 0 0 0)
-    kwh-none e = record {
-      priced = λ price. under price None e ∙ share-none price terms.kind bill bill.kwh ok.days ∙ omega arith;
+    pub kwh-none : terms.certificate ≡ None → k.baseline ≡ bill.kwh → k.etii ≡ 0 → k.old ≡ 0 → k.new ≡ 0 → KwhOf terms bill k
+    kwh-none e baseline etii old new = record {
+      priced = λ price. under price None e ∙ share-none price terms.kind bill bill.kwh ok.days ∙ rw (baseline, etii, old, new) (omega arith);
       whole = omega arith;
     }
 
-    pub kwh-etii : (day before : ℕ) → terms.certificate ≡ Etii day → before ≡ kwh_before bill bill.kwh day → before ≤ bill.kwh
-        → KwhOf terms bill (found before (bill.kwh - before) 0 0)
-    kwh-etii day before e is most = record {
-      priced = λ price. under price (Etii day) e ∙ share-etii price terms.kind bill bill.kwh ok.days day ∙ rw (sym is) (omega arith);
-      whole = omega arith;
+    pub kwh-etii : (day : ℕ) → terms.certificate ≡ Etii day → k.baseline ≡ kwh_before bill bill.kwh day → k.etii ≡ bill.kwh - k.baseline → k.old ≡ 0 → k.new ≡ 0
+        → KwhOf terms bill k
+    kwh-etii day e baseline etii old new = record {
+      priced = λ price. under price (Etii day) e ∙ share-etii price terms.kind bill bill.kwh ok.days day ∙ rw (etii, baseline, old, new) (omega arith);
+      whole = omega (arith, before-most bill.kwh (days_of bill) bill.first day (omega arith));
     }
 
-    pub kwh-qhs : (day before new : ℕ) → terms.certificate ≡ Qhs day → before ≡ kwh_before bill bill.kwh day → new ≡ with_new_minimum terms.kind bill bill.kwh day
-        → KwhOf terms bill (found before 0 (bill.kwh - before - new) new)
-    kwh-qhs day before new e is is-new = record {
-      priced = λ price. under price (Qhs day) e ∙ share-qhs price terms.kind bill bill.kwh ok.days day ∙ rw (sym is, sym is-new) (omega arith);
-      whole = omega (arith, is, is-new, new-most terms.kind bill bill.kwh day ok.days);
+    pub kwh-qhs : (day : ℕ) → terms.certificate ≡ Qhs day → k.baseline ≡ kwh_before bill bill.kwh day → k.etii ≡ 0 → k.old ≡ bill.kwh - k.baseline - k.new
+        → k.new ≡ with_new_minimum terms.kind bill bill.kwh day → KwhOf terms bill k
+    kwh-qhs day e baseline etii old new = record {
+      priced = λ price. under price (Qhs day) e ∙ share-qhs price terms.kind bill bill.kwh ok.days day ∙ rw (old, baseline, etii, new) (omega arith);
+      whole = omega (arith, new-most terms.kind bill bill.kwh day ok.days);
     }
 
-  pub kwh-shares : has_shares bill ≡ true → (new : ℕ) → new ≡ with_new_minimum terms.kind bill bill.qhs 0
-      → KwhOf terms bill (found (bill.kwh - (bill.etii + bill.qhs)) bill.etii (bill.qhs - new) new)
-  kwh-shares some new is = record { priced = priced; whole = omega (arith, ok.shares, is, new-most terms.kind bill bill.qhs 0 ok.days) }
+  pub kwh-shares : has_shares bill ≡ true → k.baseline ≡ bill.kwh - (bill.etii + bill.qhs) → k.etii ≡ bill.etii → k.old ≡ bill.qhs - k.new
+      → k.new ≡ with_new_minimum terms.kind bill bill.qhs 0 → KwhOf terms bill k
+  kwh-shares some baseline etii old new = record { priced = priced; whole = omega (arith, ok.shares, new-most terms.kind bill bill.qhs 0 ok.days) }
     where
       from-0 : (k : ℕ) → kwh_before bill k 0 ≡ 0
       from-0 k = before-first k (days_of bill) bill.first 0 (omega arith)
 
-      priced : (price : Class → ℕ) → bill_at price terms bill
-          ≡ (bill.kwh - (bill.etii + bill.qhs)) * price class.Baseline + bill.etii * price class.Etii + (bill.qhs - new) * price class.QhsOld + new * price class.QhsNew
+      priced : (price : Class → ℕ) → bill_at price terms bill ≡ at_prices price k
       priced price =
-          let etii : bill.etii - 0 ≡ bill.etii = omega arith in
-          let old : bill.qhs - 0 - new ≡ bill.qhs - new = omega arith in
+          let all-etii : bill.etii - 0 ≡ k.etii = omega arith in
+          let all-old : bill.qhs - 0 - k.new ≡ k.old = omega arith in
           bill-with price terms bill some
           ∙ rw (
             share-none price terms.kind bill (bill.kwh - (bill.etii + bill.qhs)) ok.days,
@@ -136,6 +134,12 @@ module _ (terms : Terms) (bill : Bill) (ok : Rateable bill) where
             share-qhs price terms.kind bill bill.qhs ok.days 0,
             from-0 bill.etii,
             from-0 bill.qhs,
-            sym is,
+            sym new,
+            sym baseline,
           )
-          (omega (arith, ap (λ (n : ℕ). n * price class.Etii) etii, ap (λ (n : ℕ). n * price class.QhsOld) old))
+          (omega (arith, ap (λ (n : ℕ). n * price class.Etii) all-etii, ap (λ (n : ℕ). n * price class.QhsOld) all-old))
+
+-- the kWh in each class, each at the rate of its class, are the amount
+pub at-the-rates : (terms : Terms) (bill : Bill) (k : KwhByClass) → KwhOf terms bill k → at_prices (rate_of terms bill) k ≡ amount terms bill
+unfolding amount
+at-the-rates terms bill k of = sym (of.priced (rate_of terms bill))

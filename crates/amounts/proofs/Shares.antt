@@ -12,8 +12,10 @@ use Rattle.rates.specs.declared.Terms.{Terms}
 use Rattle.rates.specs.declared.Certificate.{Certificate}
 use Rattle.rates.specs.declared.Certificate.TheVariants.{None, Etii, Qhs}
 use Rattle.rates.specs.declared.Class.{Class}
+use Rattle.rates.specs.declared.Class.TheVariants.{Baseline}
+use Rattle.rates.specs.Rates.{class_rate, class_of}
 use Rattle.amounts.specs.declared.Bill.{Bill}
-use Rattle.amounts.specs.Amounts.{days_of, share, has_shares, rest_certificate, shares, share_at, bill_at, amount}
+use Rattle.amounts.specs.Amounts.{days_of, share, has_shares, rest_certificate, shares, share_at, bill_at, amount, rate}
 use Rattle.amounts.proofs.Days.{by-day-none, by-day-le}
 use Rattle.amounts.proofs.Stretches.{one-price}
 
@@ -44,6 +46,17 @@ set_aside terms bill some = rw some
 pub amount-set-aside : (terms other : Terms) (bill : Bill) → has_shares bill ≡ true → terms.fuel ≡ other.fuel → terms.kind ≡ other.kind → amount terms bill ≡ amount other bill
 unfolding amount bill_at shares rest_certificate
 amount-set-aside terms other bill some fuel kind = rw (some, fuel, kind)
+
+-- the rate answered is the baseline one, or that of the first day's class
+pub rate-shared : (terms : Terms) (bill : Bill) → has_shares bill ≡ true → rate terms bill ≡ class_rate terms.fuel Baseline bill.reference bill.supply
+unfolding rate
+rate-shared terms bill some = rw (set_aside terms bill some)
+
+pub rate-whole : (terms : Terms) (bill : Bill) → has_shares bill ≡ false → rate terms bill ≡ class_rate terms.fuel (class_of terms bill.first) bill.reference bill.supply
+unfolding rate class_of
+rate-whole terms bill none = rw (certificate-kept terms bill none)
+
+pub ruleset rates = (rate-shared, rate-whole)
 
 -- ---- the shares have all of a bill's kWh
 
