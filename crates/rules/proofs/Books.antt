@@ -2,8 +2,8 @@
 use mathlib.Core.Path.{◌≡◌, refl, sym, ap, ◌∙◌}
 use mathlib.Core.Bool.{Bool, true, false, cond, ◌||◌}
 use mathlib.Core.List.{List, [], ◌∷◌}
-use Prim.Native.Nat.{ℕ, zero, suc, ◌+◌, ◌<◌, ◌≤◌, max}
-use native.Mathlib.Nat.{not-suc-le-zero, le_of_suc-le-suc, zero-add}
+use Prim.Native.Nat.{ℕ, ◌+◌, ◌<◌, ◌≤◌, max}
+use native.Mathlib.Nat.{zero-add}
 use native.Mathlib.Numerals.{add-one}
 use native.Mathlib.Omega.{arith}
 use lib.Dec.{ltb}
@@ -65,9 +65,3 @@ module _ (book : List ℕ) where
       let end : i ≡ length book = omega (arith, t.place) in
       let all : drop i book ≡ [] = ap (λ (n : ℕ). drop n book) end ∙ drop-length book in
       rw (yes-eq (length book) book_length l) (or-none (ltb highest_price highest) ∙ ap (λ (entries : List ℕ). ltb highest_price highest || ltb 0 (count (ltb highest_price) entries)) (sym all) ∙ t.rest)
-
--- an entry past the end
-pub entry_past : (book : List ℕ) (i : ℕ) → length book ≤ i → 0 ≡ get_or book i 0
-entry_past [] i h = refl
-entry_past (x ∷ xs) zero h = absurd (not-suc-le-zero h)
-entry_past (x ∷ xs) (suc i) h = entry_past xs i (le_of_suc-le-suc h)

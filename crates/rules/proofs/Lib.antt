@@ -1,3 +1,2 @@
 -- Laws that the proofs of this crate share.
 pub mod Books
-pub mod Prices

@@ -47,7 +47,11 @@ pub fn bad_effective(class: u32, effective_day: u32) -> bool
     if class == 0 {
         return effective_day != 0;
     }
-    let first_day = if class == 2 { FIRST_QHS_DAY } else { FIRST_SCHEME_DAY };
+    let first_day = if class == 2 {
+        FIRST_QHS_DAY
+    } else {
+        FIRST_SCHEME_DAY
+    };
     LAST_DAY < effective_day || effective_day < first_day
 }
 
