@@ -1,8 +1,7 @@
 -- The laws of the crate, for its own proofs and for its callers'.
 pub mod SameDate
-pub mod Positions
 pub mod Days
+pub mod Conversions
 pub mod TableOfDates
 pub mod SchemeMonths
-pub mod Conversions
 pub mod DayAndDate

@@ -34,7 +34,7 @@ abbrev pub packed : CalendarDate → ℕ
 packed date = ((date.year - 2000) * 16 + date.month) * 32 + date.day
 
 -- the date that a packed date stands for
-unfoldable pub unpacked : ℕ → CalendarDate
+abbrev pub unpacked : ℕ → CalendarDate
 unpacked number = date_from (2000 + number / 512) (number / 32 % 16) (number % 32)
 
 -- the table as it is packed

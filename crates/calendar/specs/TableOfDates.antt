@@ -1,11 +1,10 @@
 -- Document 01, "Days": what is established of the table of dates, and of `day` and `date`, which read it. Assumes nothing.
-use Rattle.std.specs.Prelude.{◌≡◌, List, [], ◌∷◌, map, ◌↔◌, ℕ, suc, ◌<◌, length, get_or}
+use Rattle.std.specs.Prelude.{◌≡◌, None, Some, List, [], ◌∷◌, map, ◌↔◌, ℕ, suc, ◌<◌, length, get_or}
 use Rattle.calendar.specs.declared.CalendarDate.{CalendarDate}
-use Rattle.calendar.specs.declared.DayAnswer.{DayAnswer}
-use Rattle.calendar.specs.declared.DateAnswer.{DateAnswer}
+use Rattle.calendar.specs.declared.dates.TheConstants.{DATES}
 use Rattle.calendar.specs.Calendar.{date_from, next_date}
 use Rattle.calendar.specs.Days.{date_of, unpacked, packed_dates}
-use Rattle.calendar.specs.Answers.{day_answer, date_answer}
+use Rattle.calendar.specs.Answers.{day_of_date, date_of_day}
 
 -- the date at an entry of a packed table
 abbrev pub date_at : List ℕ → ℕ → CalendarDate
@@ -13,6 +12,8 @@ date_at table day = unpacked (get_or table day 0)
 
 -- the table of packed dates, which the code has as a constant
 pub record TableOfDates : Type 0 where
+  -- the code's constant is this table
+  pub constant : DATES ≡ packed_dates
   -- "A table of 852 entries"
   pub entries : length packed_dates ≡ 852
   -- "every entry is the calendar day after the one before it"
@@ -26,7 +27,7 @@ pub record TableOfDates : Type 0 where
 -- day and date: each is the inverse of the other, and each turns down exactly what isn't in the table
 pub record DayAndDateInverse : Type 0 where
   pub inverse : (year month day number : ℕ)
-      → (day_answer year month day ≡ DayAnswer.Day number) ↔ (date_answer number ≡ DateAnswer.Date (date_from year month day))
+      → (day_of_date year month day ≡ Some number) ↔ (date_of_day number ≡ Some (date_from year month day))
   pub day_refused : (year month day : ℕ)
-      → (day_answer year month day ≡ DayAnswer.Refused 7) ↔ ((number : ℕ) → number < 852 → date_of number ≡ date_from year month day → ⊥)
-  pub date_refused : (number : ℕ) → (date_answer number ≡ DateAnswer.Refused 7) ↔ (number < 852 → ⊥)
+      → (day_of_date year month day ≡ None) ↔ ((number : ℕ) → number < 852 → date_of number ≡ date_from year month day → ⊥)
+  pub date_refused : (number : ℕ) → (date_of_day number ≡ None) ↔ (number < 852 → ⊥)

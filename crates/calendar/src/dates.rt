@@ -1,16 +1,8 @@
 // The table of dates: for each day number, 0 for 1 December 2021 to 851 for 31 March 2024, its packed date.
-ghost use Rattle.std.specs.Prelude.{◌≡◌};
-ghost use Rattle.calendar.specs.Days.{packed_dates};
 
-// The whole table: a look into the constant would copy all of it at each look.
-pub fn table() -> [u16; 852]
-    ensures { result ≡ packed_dates }
-{
-    DATES
-}
-
+// A static, since a look at an entry of a constant by its index would copy the whole table first.
 // A packed date has its day in bits 0 to 4, its month in bits 5 to 8 and the years after 2000 in bits 9 to 15.
-const DATES: [u16; 852] = [
+pub static DATES: [u16; 852] = [
     // December 2021
     11137, 11138, 11139, 11140, 11141, 11142, 11143, 11144, 11145, 11146, 11147, 11148, 11149,
     11150, 11151, 11152, 11153, 11154, 11155, 11156, 11157, 11158, 11159, 11160, 11161, 11162,

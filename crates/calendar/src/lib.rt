@@ -5,45 +5,28 @@
 mod dates;
 
 ghost use Rattle.std.specs.Prelude.{◌≡◌};
-ghost use Rattle.calendar.specs.Calendar.{same_date};
 ghost use Rattle.calendar.specs.Days.{unpacked, scheme_month};
-ghost use Rattle.calendar.specs.Answers.{day_answer, date_answer};
+ghost use Rattle.calendar.specs.Answers.{day_of_date, date_of_day};
 
+use dates::DATES;
 use limits::DAY_COUNT;
 
-// The number that turns down a wrong day.
-const WRONG_DAY: u32 = 7;
-
-// The first day of each scheme month after April 2023: 1 May 2023 to 1 March 2024.
-const LATER_MONTHS: [u32; 11] = [516, 547, 577, 608, 639, 669, 700, 730, 761, 792, 821];
+// April 2023, the first scheme month, in months counted from year 0.
+const FIRST_MONTH: u32 = 12 * 2023 + 4;
 
 // A date of the calendar.
-#[derive(Clone, Copy)]
+#[derive(Clone, Copy, Debug, PartialEq, Eq)]
 pub struct CalendarDate {
     pub year: u32,
     pub month: u32,
     pub day: u32,
 }
 
-// What `day` answers: the day number, or the number that turns it down.
-#[derive(Clone, Copy)]
-pub enum DayAnswer {
-    Day(u32),
-    Refused(u32),
-}
-
-// What `date` answers: the date, or the number that turns it down.
-#[derive(Clone, Copy)]
-pub enum DateAnswer {
-    Date(CalendarDate),
-    Refused(u32),
-}
-
-// The date that a packed date stands for.
+// The date that a packed date stands for. No `From<u16>`: few numbers of 16 bits are packed dates, and other crates would see it.
 fn unpacked(entry: u16) -> CalendarDate
     ensures { result ≡ unpacked entry }
 {
-    let packed = entry as u32;
+    let packed = u32::from(entry);
     CalendarDate {
         year: 2000 + packed / 512,
         month: packed / 32 % 16,
@@ -51,61 +34,27 @@ fn unpacked(entry: u16) -> CalendarDate
     }
 }
 
-// Whether two dates are the same.
-fn same_date(a: CalendarDate, b: CalendarDate) -> bool
-    ensures { result ≡ same_date a b }
-{
-    if a.year != b.year {
-        return false;
-    }
-    if a.month != b.month {
-        return false;
-    }
-    a.day == b.day
-}
-
-// The day number of a date, found in the table.
-pub fn day(year: u32, month: u32, day: u32) -> DayAnswer
-    ensures { result ≡ day_answer year month day }
+// The day number of a date, or `None` where no day has the date.
+pub fn day(year: u32, month: u32, day: u32) -> Option<u32>
+    ensures { result ≡ day_of_date year month day }
 {
     let wanted = CalendarDate { year, month, day };
-    let table = dates::table();
-    let mut number: u32 = 0;
-    while number < DAY_COUNT {
-        if same_date(wanted, unpacked(table[number as usize])) {
-            return DayAnswer::Day(number);
-        }
-        number += 1;
-    }
-    DayAnswer::Refused(WRONG_DAY)
+    (0..DAY_COUNT).find(|number| date(*number) == Some(wanted))
 }
 
-// The date of a day number.
-pub fn date(day: u32) -> DateAnswer
-    ensures { result ≡ date_answer day }
+// The date of a day number, or `None` above the last day.
+pub fn date(day: u32) -> Option<CalendarDate>
+    ensures { result ≡ date_of_day day }
 {
-    if day < DAY_COUNT {
-        let table = dates::table();
-        return DateAnswer::Date(unpacked(table[day as usize]));
-    }
-    DateAnswer::Refused(WRONG_DAY)
+    DATES.get(day as usize).map(|entry| unpacked(*entry))
 }
 
 // The scheme month of a day: 0 for April 2023 to 11 for March 2024, and 0 for any day outside them.
 pub fn scheme_month(day: u32) -> u32
     ensures { result ≡ scheme_month day }
 {
-    if DAY_COUNT <= day {
-        return 0;
+    match date(day) {
+        Some(date) => (12 * date.year + date.month).saturating_sub(FIRST_MONTH),
+        None => 0,
     }
-    let starts = LATER_MONTHS;
-    let mut month: u32 = 0;
-    let mut i: usize = 0;
-    while i < starts.len() {
-        if starts[i] <= day {
-            month += 1;
-        }
-        i += 1;
-    }
-    month
 }

@@ -1,9 +1,9 @@
--- `date` meets its contract: below 852 by the entry of the table, else by the test alone.
-use Rattle.calendar.proofs.Conversions.{date-found, late-refused}
+-- `date` meets its contract: it reads the date of the table's entry.
+use Rattle.std.proofs.Common.{rules}
+use Rattle.calendar.specs.declared.dates.TheConstants.{DATES}
+use Rattle.calendar.proofs.Days.{code-dates}
+use Rattle.calendar.proofs.Conversions.{read-date}
 use Rattle.calendar.proofs.date.Goals as goal
 
-pub returns-then-day-lt-DAY_COUNT : goal.returns-then-day-lt-DAY_COUNT
-returns-then-day-lt-DAY_COUNT c = search date-found
-
 pub returns : goal.returns
-returns c = search late-refused
+returns c = read-date _ (λ entry date read. search rules) DATES code-dates c.args.day _ _ c.get.ensures.lookup c.map.ensures.cases

@@ -1,15 +1,14 @@
--- `day` meets its contract. The loop's invariant: no day passed has the date. The measure is what is left of the table.
-use Rattle.calendar.proofs.Conversions.{none-sought, found, goes_on, absent-refused}
+-- `day` meets its contract: the search finds the first day that has the date.
+use Rattle.std.proofs.Common.{rules, tests, ◌≡◌, true, false}
+use Rattle.std.proofs.lemmas.Iterator.{first_from_Range}
+use Rattle.calendar.specs.Calendar.{date_from}
+use Rattle.calendar.proofs.Conversions.{has_date, found-day}
 use Rattle.calendar.proofs.day.Goals as goal
 
-pub loop-number-init : goal.loop-number-init
-loop-number-init c = search none-sought
-
-pub returns-then-same_date : goal.returns-then-same_date
-returns-then-same_date c = search found
-
-pub loop-number-preserved : goal.loop-number-preserved
-loop-number-preserved c = search goes_on
-
 pub returns : goal.returns
-returns c = search absent-refused
+returns c =
+    let date = date_from c.args.year c.args.month c.args.day in
+    found-day c.args.year c.args.month c.args.day c.find.result
+    (first_from_Range _ _ _ c.find.result (λ n. has_date date n ≡ true) (λ n. has_date date n ≡ false) c.find.ensures.ran
+    (λ n q k. search (rules, tests))
+    (λ n q k. search (rules, tests)))
