@@ -4,7 +4,11 @@ use mathlib.Core.Path.{◌≡◌, refl, sym, ap, ◌∙◌}
 use mathlib.Core.Bool.{Bool, true}
 use mathlib.Core.List.{map}
 use native.Mathlib.Omega.{arith}
-use lib.ListN.{length, get_or-map, get_or-eq_default}
+use lib.Dec.{leb}
+use lib.ListN.{length, get_or-map}
+use native.Mathlib.Numerals.{add-one}
+use Rattle.std.proofs.lemmas.Bool.{leb-true}
+use Rattle.std.proofs.lemmas.List.Sorted.{IsNonDecreasingBy-from_all_adjacent}
 use Rattle.limits.specs.Limits.{day_count}
 use Rattle.calendar.specs.declared.CalendarDate.{CalendarDate}
 use Rattle.calendar.specs.declared.dates.TheConstants.{DATES}
@@ -17,11 +21,6 @@ pub day-count : length dates ≡ day_count
 unfolding dates
 day-count = refl
 
--- past them there is no date
-pub past-table : (day : ℕ) → day_count ≤ day → date_of day ≡ no_date
-unfolding date_of
-past-table day above = get_or-eq_default dates no_date (omega (arith, day-count))
-
 -- what one test shows of the whole table holds of the dates of each day and the next
 pub from-day-to-day :
     (test : CalendarDate → CalendarDate → Bool)
@@ -29,6 +28,17 @@ pub from-day-to-day :
     → (day : ℕ) → suc day < day_count → test (date_of day) (date_of (suc day)) ≡ true
 unfolding date_of
 from-day-to-day test passed day inside = adjacent-at no_date test dates passed day (omega (arith, day-count))
+
+-- a number of the dates that is no less from each day to the next is no less from a day to any later one
+pub rises :
+    (number : CalendarDate → ℕ)
+    → adjacent (λ a b. leb (number a) (number b)) dates ≡ true
+    → (first last : ℕ) → first ≤ last → last < day_count → number (date_of first) ≤ number (date_of last)
+unfolding date_of
+rises number passed first last order inside =
+    IsNonDecreasingBy-from_all_adjacent number dates
+    (λ day none next. leb-true _ _ (rw add-one (adjacent-at none _ dates passed day (omega arith))))
+    first last no_date order (omega (arith, day-count))
 
 -- the date of each day comes back from its packed form
 unpacked-packed : (day : ℕ) → unpacked (packed (date_of day)) ≡ date_of day

@@ -1,10 +1,10 @@
 -- The test whether two dates are the same passes exactly where they are equal.
-use Rattle.std.proofs.Common.{◌≡◌, Bool, true, false, ◌&&◌, eqb, arith}
+use Rattle.std.proofs.Common.{◌≡◌, false, arith}
 use Rattle.std.specs.Bool.{Decides}
 use Rattle.std.proofs.lemmas.Bool.{not-true}
 use Rattle.std.proofs.lemmas.Bool.Decides.{Decides-not, nat_tests}
 use Rattle.calendar.specs.declared.CalendarDate.{CalendarDate}
-use Rattle.calendar.specs.Calendar.{date_from, same_date}
+use Rattle.calendar.specs.Calendar.{same_date}
 
 pub same_decides : (a b : CalendarDate) → Decides (same_date a b) (a ≡ b)
 same_decides a b = (λ same. grind (arith, nat_tests), λ equal. grind (arith, nat_tests))

@@ -1,59 +1,40 @@
--- The scheme month of a later day is no earlier one; and that of a day is the number of the later scheme months' first days that have come
--- by that day.
-use Prim.Native.Nat.{ℕ, zero, suc, ◌+◌, ◌-◌, ◌≤◌, ◌<◌}
-use mathlib.Core.Path.{◌≡◌, refl, ap, ◌∙◌}
-use mathlib.Core.Bool.{Bool, true, false, cond}
-use mathlib.Core.List.{List}
-use native.Mathlib.Omega.{arith}
-use lib.Dec.{leb, eqb}
-use lib.ListN.{length}
-use Rattle.std.specs.List.{filter}
+-- The scheme month of a later day is no earlier one; and that of a day is that of the date which `date` answers.
+use Rattle.std.proofs.Common.{◌≡◌, refl, sym, ap, ◌∙◌, ℕ, ◌+◌, ◌*◌, ◌≤◌, ◌<◌, Option, Some, arith}
+use Rattle.std.specs.Option.{unwrap_or}
+use Rattle.std.proofs.lemmas.Option.{unwrap_or-slice_get}
 use Rattle.limits.specs.Limits.{day_count}
-use Rattle.basics.proofs.Tests.{eq_yes, le_yes}
 use Rattle.calendar.specs.declared.CalendarDate.{CalendarDate}
 use Rattle.calendar.specs.Days.{dates, date_of, no_date, scheme_month, scheme_month_of}
-use Rattle.calendar.proofs.Days.{day-count, from-day-to-day}
-use Rattle.basics.proofs.Tables.{each, each_at, adjacent}
+use Rattle.calendar.specs.Answers.{date_of_day}
+use Rattle.calendar.proofs.Conversions.{date-answered}
+use Rattle.calendar.proofs.Days.{rises}
 
 -- ---- the order of days
 
--- whether a date's scheme month is no earlier than another's
-no_earlier_month : CalendarDate → CalendarDate → Bool
-no_earlier_month earlier later = leb (scheme_month_of earlier) (scheme_month_of later)
-
--- the test over the whole table, which antt computes
-months-rise : adjacent no_earlier_month dates ≡ true
-unfolding dates no_earlier_month
-months-rise = refl
-
--- so it is from each day to the next, and to any later one
-next-month : (day : ℕ) → suc day < day_count → scheme_month day ≤ scheme_month (suc day)
-unfolding scheme_month no_earlier_month
-next-month day inside = le_yes _ _ (from-day-to-day no_earlier_month months-rise day inside)
-
-later-month : (n day later : ℕ) → day + n ≡ later → later < day_count → scheme_month day ≤ scheme_month later
-later-month zero day later e inside = let same : day ≡ later = omega arith in rw same (omega arith)
-later-month (suc n) day later e inside = omega (arith, next-month day (omega arith), later-month n (suc day) later (omega arith) inside)
+-- antt computes the test over the whole table
+later-month : (first last : ℕ) → first ≤ last → last < day_count → scheme_month first ≤ scheme_month last
+unfolding scheme_month dates
+later-month = rises scheme_month_of refl
 
 -- the days between two of one scheme month are of that month
 pub month-between : (first day last : ℕ) → first ≤ day → day ≤ last → last < day_count → scheme_month first ≡ scheme_month last → scheme_month day ≡ scheme_month first
 month-between first day last h k inside e =
-    omega (arith, e, later-month (day - first) first day (omega arith) (omega arith), later-month (last - day) day last (omega arith) inside)
+    omega (arith, e, later-month first day h (omega arith), later-month day last k inside)
 
--- ---- the count of first days
+-- ---- the scheme month of what `date` answers
 
--- how many of these days have come by a day
-unfoldable pub begun : ℕ → List ℕ → ℕ
-begun day starts = length (filter (λ start. leb start day) starts)
+-- it is the date's, and 0 where there is none
+pub of-answer : (day : ℕ) (answer : Option CalendarDate) → answer ≡ date_of_day day → scheme_month_of (unwrap_or answer no_date) ≡ scheme_month day
+unfolding date_of_day scheme_month date_of
+of-answer day answer is =
+    ap (λ (a : Option CalendarDate). scheme_month_of (unwrap_or a no_date)) is ∙ ap scheme_month_of (unwrap_or-slice_get dates day no_date)
 
--- whether a date's scheme month is the number of the starts that have come by its day
-unfoldable pub as_begun : List ℕ → ℕ → CalendarDate → Bool
-as_begun starts day date = eqb (begun day starts) (scheme_month_of date)
+last-day : scheme_month 851 ≡ 11
+unfolding scheme_month date_of dates
+last-day = refl
 
--- so it is on each day of the table, from the test over the whole table
-pub month-begun :
-    (starts : List ℕ) → each (as_begun starts) 0 dates ≡ true
-    → (day : ℕ) → day < day_count → begun day starts ≡ scheme_month day
-unfolding date_of scheme_month as_begun
-month-begun starts passed day inside =
-    eq_yes _ _ (each_at no_date (as_begun starts) 0 dates passed day day (omega (arith, day-count)) (omega arith))
+-- no date's month comes after March 2024
+pub last-month : (day : ℕ) (date : CalendarDate) → Some date ≡ date_of_day day → 12 * date.year + date.month ≤ 12 * 2024 + 3
+last-month day date is =
+    let inside : day < day_count = (date-answered day date (sym is)).0 in
+    omega (arith, last-day, later-month day 851 (omega arith) (omega arith), of-answer day (Some date) is)

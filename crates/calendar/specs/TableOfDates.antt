@@ -1,5 +1,5 @@
 -- Document 01, "Days": what is established of the table of dates, and of `day` and `date`, which read it. Assumes nothing.
-use Rattle.std.specs.Prelude.{◌≡◌, Option, None, Some, List, [], ◌∷◌, map, ◌↔◌, ℕ, suc, ◌<◌, length, get_or}
+use Rattle.std.specs.Prelude.{◌≡◌, None, Some, List, [], ◌∷◌, map, ◌↔◌, ℕ, suc, ◌<◌, length, get_or}
 use Rattle.calendar.specs.declared.CalendarDate.{CalendarDate}
 use Rattle.calendar.specs.declared.dates.TheConstants.{DATES}
 use Rattle.calendar.specs.Calendar.{date_from, next_date}
@@ -12,7 +12,7 @@ date_at table day = unpacked (get_or table day 0)
 
 -- the table of packed dates, which the code has as a constant
 pub record TableOfDates : Type 0 where
-  -- it is the code's
+  -- the code's constant is this table
   pub constant : DATES ≡ packed_dates
   -- "A table of 852 entries"
   pub entries : length packed_dates ≡ 852

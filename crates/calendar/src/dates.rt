@@ -1,5 +1,6 @@
 // The table of dates: for each day number, 0 for 1 December 2021 to 851 for 31 March 2024, its packed date.
 
+// A static, since a look at an entry of a constant by its index would copy the whole table first.
 // A packed date has its day in bits 0 to 4, its month in bits 5 to 8 and the years after 2000 in bits 9 to 15.
 pub static DATES: [u16; 852] = [
     // December 2021

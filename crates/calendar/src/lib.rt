@@ -11,8 +11,8 @@ ghost use Rattle.calendar.specs.Answers.{day_of_date, date_of_day};
 use dates::DATES;
 use limits::DAY_COUNT;
 
-// The first day of each scheme month after April 2023: 1 May 2023 to 1 March 2024.
-const LATER_MONTHS: [u32; 11] = [516, 547, 577, 608, 639, 669, 700, 730, 761, 792, 821];
+// April 2023, the first scheme month, in months counted from year 0.
+const FIRST_MONTH: u32 = 12 * 2023 + 4;
 
 // A date of the calendar.
 #[derive(Clone, Copy, Debug, PartialEq, Eq)]
@@ -22,7 +22,7 @@ pub struct CalendarDate {
     pub day: u32,
 }
 
-// The date that a packed date stands for.
+// The date that a packed date stands for. No `From<u16>`: few numbers of 16 bits are packed dates, and other crates would see it.
 fn unpacked(entry: u16) -> CalendarDate
     ensures { result ≡ unpacked entry }
 {
@@ -34,7 +34,7 @@ fn unpacked(entry: u16) -> CalendarDate
     }
 }
 
-// The day number of a date, found in the table; none where no day has the date.
+// The day number of a date, or `None` where no day has the date.
 pub fn day(year: u32, month: u32, day: u32) -> Option<u32>
     ensures { result ≡ day_of_date year month day }
 {
@@ -42,7 +42,7 @@ pub fn day(year: u32, month: u32, day: u32) -> Option<u32>
     (0..DAY_COUNT).find(|number| date(*number) == Some(wanted))
 }
 
-// The date of a day number; none above the last day.
+// The date of a day number, or `None` above the last day.
 pub fn date(day: u32) -> Option<CalendarDate>
     ensures { result ≡ date_of_day day }
 {
@@ -53,8 +53,8 @@ pub fn date(day: u32) -> Option<CalendarDate>
 pub fn scheme_month(day: u32) -> u32
     ensures { result ≡ scheme_month day }
 {
-    if DAY_COUNT <= day {
-        return 0;
+    match date(day) {
+        Some(date) => (12 * date.year + date.month).saturating_sub(FIRST_MONTH),
+        None => 0,
     }
-    LATER_MONTHS.iter().filter(|start| **start <= day).count() as u32
 }

@@ -2,8 +2,8 @@
 use Rattle.std.proofs.Common.{rules}
 use Rattle.calendar.specs.declared.dates.TheConstants.{DATES}
 use Rattle.calendar.proofs.Days.{code-dates}
-use Rattle.calendar.proofs.Conversions.{date-found}
+use Rattle.calendar.proofs.Conversions.{read-date}
 use Rattle.calendar.proofs.date.Goals as goal
 
 pub returns : goal.returns
-returns c = date-found DATES code-dates c.args.day _ (λ e d read. search rules) _ _ c.get.ensures.lookup c.map.ensures.cases
+returns c = read-date _ (λ entry date read. search rules) DATES code-dates c.args.day _ _ c.get.ensures.lookup c.map.ensures.cases

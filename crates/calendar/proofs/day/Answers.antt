@@ -1,13 +1,14 @@
--- `day` meets its contract.
-use Rattle.std.proofs.Common.{rules, ◌≡◌, Some, ◌∙◌, true, false, tests}
+-- `day` meets its contract: the search finds the first day that has the date.
+use Rattle.std.proofs.Common.{rules, tests, ◌≡◌, true, false}
 use Rattle.std.proofs.lemmas.Iterator.{first_from_Range}
-use Rattle.limits.specs.Limits.{day_count}
-use Rattle.calendar.specs.Calendar.{date_from, same_date}
-use Rattle.calendar.proofs.Conversions.{has_date, day-found}
+use Rattle.calendar.specs.Calendar.{date_from}
+use Rattle.calendar.proofs.Conversions.{has_date, found-day}
 use Rattle.calendar.proofs.day.Goals as goal
 
 pub returns : goal.returns
 returns c =
     let date = date_from c.args.year c.args.month c.args.day in
-    day-found c.args.year c.args.month c.args.day c.find.result
-    (first_from_Range _ _ _ c.find.result (λ n. has_date date n ≡ true) (λ n. has_date date n ≡ false) c.find.ensures.ran (λ n q k. search (rules, tests)) (λ n q k. search (rules, tests)))
+    found-day c.args.year c.args.month c.args.day c.find.result
+    (first_from_Range _ _ _ c.find.result (λ n. has_date date n ≡ true) (λ n. has_date date n ≡ false) c.find.ensures.ran
+    (λ n q k. search (rules, tests))
+    (λ n q k. search (rules, tests)))

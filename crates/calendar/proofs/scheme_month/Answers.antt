@@ -1,22 +1,16 @@
--- `scheme_month` meets its contract.
-use Rattle.std.proofs.Common.{rules, tests, ◌≡◌, refl, sym, ap, ◌∙◌, nat_le}
-use Rattle.std.proofs.lemmas.Iterator.{YieldsList-from_slice}
-use Rattle.std.proofs.lemmas.Iterator.Consumers.{YieldsList-at, YieldsList-from_filter, count_from_yields_List}
-use Rattle.calendar.specs.declared.TheConstants.{LATER_MONTHS}
-use Rattle.calendar.specs.Days.{dates, scheme_month, scheme_month_of}
-use Rattle.calendar.proofs.Days.{past-table}
-use Rattle.calendar.proofs.SchemeMonths.{begun, as_begun, month-begun}
+-- `scheme_month` meets its contract: it is that of the day's date. The months of dates in the table keep the sums in range.
+use Rattle.std.proofs.Common.{◌∙◌, arith}
+use Rattle.calendar.proofs.SchemeMonths.{of-answer, last-month}
 use Rattle.calendar.proofs.scheme_month.Goals as goal
 
-pub returns-then-day-ge-DAY_COUNT : goal.returns-then-day-ge-DAY_COUNT
-unfolding scheme_month
-returns-then-day-ge-DAY_COUNT c = ap scheme_month_of (sym (past-table c.args.day c.if-day-ge-DAY_COUNT.true))
+pub overflow_mul-date : goal.overflow_mul-date
+overflow_mul-date c = omega (arith, last-month c.args.day c.in-Some.date c.in-Some.ensures)
 
--- antt computes the test over the whole table with the code's own first days
-pub returns : goal.returns
-unfolding dates begun as_begun
-returns c =
-    let counted : c.count.result ≡ begun c.args.day LATER_MONTHS =
-        count_from_yields_List c.filter.result c.count.result c.count.ensures.ran
-        (YieldsList-from_filter _ (λ start. nat_le start c.args.day) (YieldsList-at c.filter.ensures.source (YieldsList-from_slice LATER_MONTHS cc)) c.filter.ensures.closure (λ x b q k. search (rules, tests))) in
-    counted ∙ month-begun LATER_MONTHS refl c.args.day c.if-day-ge-DAY_COUNT.false
+pub overflow_add-date : goal.overflow_add-date
+overflow_add-date c = omega (arith, last-month c.args.day c.in-Some.date c.in-Some.ensures)
+
+pub returns-in-Some : goal.returns-in-Some
+returns-in-Some c = c.saturating_sub.ensures ∙ of-answer c.args.day _ c.in-Some.ensures
+
+pub returns-in-None : goal.returns-in-None
+returns-in-None c = of-answer c.args.day _ c.in-None.ensures
