@@ -1,12 +1,12 @@
 -- What `src/word.rt` computes: bits inserted by shifts and masks, bytes as a word, and a word as bytes.
 use mathlib.Core.Path.{◌≡◌, refl, sym, ap, ap₂, ◌∙◌, subst}
 use mathlib.Core.Bool.{Bool}
-use mathlib.Core.List.{List, [], ◌∷◌, ◌++◌}
+use mathlib.Core.List.{List, [], ◌∷◌}
 use Prim.Native.Nat.{ℕ, zero, suc, ◌+◌, ◌-◌, ◌*◌, ◌/◌, ◌%◌, ◌^◌, ◌≤◌, ◌<◌}
 use native.Mathlib.Nat.{add-zero, add-mul, mod-lt, mod-eq_of_lt, pow-suc, suc-add, zero-add, div-one}
 use native.Mathlib.Omega.{arith}
 use lib.ListN.{length, take, drop, get_or, length-drop, drop_of_length-le}
-use lib.Seq.{take_at, drop_at, drop-cons, paste, take_all}
+use lib.Seq.{take_at, drop_at, drop-cons, take_all}
 use lib.Pow.{pow_pos, pow-add, split, shr_lt, shl_exact, shr_mod, ones_lt, ones_split, high_ones}
 use lib.Bits.{bit_and, bit_or, and_mask, and_block, and_high, or_block, or_shifted, or_zero_r}
 use mir.Syntax.{w64}

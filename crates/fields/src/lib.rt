@@ -87,7 +87,12 @@ pub fn put_window(s: &mut [u8], first: usize, at: usize, w: usize, v: u64)
     requires { (0 < w) × ((w ≤ 57) × ((first + 8 ≤ length s.old) × ((8 * first ≤ at) × ((at + w ≤ 8 * first + 64) × (v < 2 ^ w))))) }
     ensures { s.new ≡ set_field s.old at w v }
 {
-    let x = insert(load_eight(&s[first..first + 8]), 64 - (at - first * 8) - w, w, v);
+    let x = insert(
+        load_eight(&s[first..first + 8]),
+        64 - (at - first * 8) - w,
+        w,
+        v,
+    );
     store_eight(&mut s[first..first + 8], x);
 }
 

@@ -11,11 +11,8 @@ pub fn put_all(s: &mut [u8], widths: &[usize], values: &[u64])
     ensures { s.new ≡ replace_at 0 (pack widths.now values.now) s.old }
 {
     let mut at: usize = 0;
-    let mut j = 0;
-    while j < widths.len() {
-        let w = widths[j];
-        fields::put(s, at, w, values[j]);
-        at += w;
-        j += 1;
+    for (w, v) in widths.iter().zip(values) {
+        fields::put(s, at, *w, *v);
+        at += *w;
     }
 }
