@@ -8,9 +8,10 @@ ghost use Rattle.records.specs.OneSlot.{slot_numbers, is_taken, record_in, recor
 ghost use Rattle.model.specs.PresentRules.{contract_ranges};
 ghost use Rattle.rules.specs.ContractListed.{listed};
 
+use fields::get_window;
 use layout::CONTRACT_LENGTH;
 use rates::Contract;
-use records::numbers::{get_window, put_all};
+use records::numbers::put_all;
 use rules::codes;
 use rules::codes::ContractNumbers;
 use rules::ranges::contract_ranges;
@@ -68,7 +69,7 @@ pub fn is_open(s: &[u8]) -> bool
     requires { length s.now ≡ contract_length }
     ensures { result ≡ is_taken contract_record s.now }
 {
-    get_window(s, 0, 0, 1) != 0
+    get_window::<u32>(s, 0, 0, 1) != 0
 }
 
 // The numbers of the contract that a slot holds.
@@ -137,7 +138,7 @@ fn padding_set(s: &[u8]) -> bool
     requires { length s.now ≡ contract_length }
     ensures { result ≡ not (all_zero (drop (suc (length contract_record.widths)) (slot_numbers contract_record s.now))) }
 {
-    get_window(s, LAST_WINDOW, ZEROS_AT, ZERO_BITS) != 0
+    get_window::<u32>(s, LAST_WINDOW, ZEROS_AT, ZERO_BITS) != 0
 }
 
 // The numbers of an open contract's slot keep their ranges.

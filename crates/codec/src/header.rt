@@ -7,7 +7,8 @@ ghost use Rattle.layout.specs.Layout.{territory_in, claims_in, pence_in};
 ghost use Rattle.layout.specs.Offsets.{first_contract};
 ghost use Rattle.layout.specs.Present.{rules, layout};
 
-use records::numbers::{get, put_all};
+use fields::get;
+use records::numbers::put_all;
 
 // The widths of the fields, in bits.
 const TERRITORY_BITS: usize = 1;
@@ -43,7 +44,7 @@ pub fn pence(b: &[u8]) -> u64
     requires { first_contract ≤ length b.now }
     ensures { result ≡ pence_in rules layout b.now }
 {
-    fields::get(b, PENCE_AT, PENCE_BITS)
+    get(b, PENCE_AT, PENCE_BITS)
 }
 
 // Writes the header anew.

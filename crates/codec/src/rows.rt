@@ -8,9 +8,10 @@ ghost use Rattle.layout.specs.Offsets.{row_length};
 ghost use Rattle.records.specs.OneSlot.{slot_numbers, is_taken, record_in, record_bytes, IsPacked};
 
 use amounts::Bill;
+use fields::get_window;
 use layout::ROW_LENGTH;
 use model::Row;
-use records::numbers::{get_window, put_all};
+use records::numbers::put_all;
 
 // The widths of the fields and of the zeros after them, in bits.
 const CONTRACT_BITS: usize = 6;
@@ -76,7 +77,7 @@ pub fn is_held(s: &[u8]) -> bool
     requires { length s.now ≡ row_length }
     ensures { result ≡ is_taken row_record s.now }
 {
-    get_window(s, 0, 0, 1) != 0
+    get_window::<u32>(s, 0, 0, 1) != 0
 }
 
 // A bit of the zeros is set.
@@ -84,7 +85,7 @@ pub fn padding_set(s: &[u8]) -> bool
     requires { length s.now ≡ row_length }
     ensures { result ≡ not (all_zero (drop (suc (length row_record.widths)) (slot_numbers row_record s.now))) }
 {
-    get_window(s, AMOUNT_WINDOW, ZEROS_AT, ZERO_BITS) != 0
+    get_window::<u32>(s, AMOUNT_WINDOW, ZEROS_AT, ZERO_BITS) != 0
 }
 
 // The row that a slot holds.
@@ -103,7 +104,7 @@ pub fn unpack_row(s: &[u8]) -> Row
             reference: get_window(s, PRICES_WINDOW, REFERENCE_AT, PRICE_BITS),
             supply: get_window(s, PRICES_WINDOW, SUPPLY_AT, PRICE_BITS),
         },
-        amount: fields::get_window(s, AMOUNT_WINDOW, AMOUNT_AT, AMOUNT_BITS),
+        amount: get_window(s, AMOUNT_WINDOW, AMOUNT_AT, AMOUNT_BITS),
     }
 }
 

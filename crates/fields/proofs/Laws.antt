@@ -6,6 +6,7 @@ use mathlib.Core.Logic.{◌⊎◌, inl, inr}
 use Prim.Native.Nat.{ℕ, zero, suc, ◌+◌, ◌-◌, ◌*◌, ◌/◌, ◌%◌, ◌^◌, ◌≤◌, ◌<◌}
 use native.Mathlib.Nat.{add-zero, add_assoc, mod-eq_of_lt, suc-ne-zero}
 use native.Mathlib.Omega.{arith}
+use borrow.Rule.Slice.PartMut.{put_mid}
 use lib.ListN.{length, take, drop, length-append, length-drop, take-append-drop}
 use lib.Seq.{length-take-le, take_all, take_at, drop_at, take-add, take-take, drop-drop, get_or-drop}
 use Rattle.fields.specs.Field.{value, bits_of, bits, bytes_of_bits, field_at, set_field, AreBytes}
@@ -181,37 +182,34 @@ module _ (b : List ℕ) (f n : ℕ) (inside : f + n ≤ length b) where
       ∙ value-part (bits (take n (drop f b))) r w below (omega (arith, length-bits (take n (drop f b)), length-window))
 
   -- putting a field in these bytes alone puts it in all
-  pub set_field-within : AreBytes b → (r w v : ℕ) → r + w ≤ 8 * n
-      → take f b ++ set_field (take n (drop f b)) r w v ++ drop (f + n) b ≡ set_field b (8 * f + r) w v
-  set_field-within hb r w v h =
+  pub set_field-within : (r w v : ℕ) → r + w ≤ 8 * n → AreBytes (put_mid f n b (set_field (take n (drop f b)) r w v))
+      → put_mid f n b (set_field (take n (drop f b)) r w v) ≡ set_field b (8 * f + r) w v
+  set_field-within r w v h hc =
       let B : List Bool = bits b in
       let D : List Bool = drop (8 * f) B in
       let W : List Bool = bits (take n (drop f b)) in
+      let E : List ℕ = drop n (drop f b) in
       let p : List ℕ = set_field (take n (drop f b)) r w v in
       let lp : length p ≡ n = length-set_field (take n (drop f b)) r w v ∙ length-window in
-      let le : length (take f b ++ p ++ drop (f + n) b) ≡ length (set_field b (8 * f + r) w v) =
+      let long : n ≤ length (drop f b) = omega (arith, length-drop f b) in
+      let le : length (take f b ++ (p ++ E)) ≡ length (set_field b (8 * f + r) w v) =
       simp (length-append, length-drop) (omega (arith, length-take-le f b (omega arith), length-set_field b (8 * f + r) w v)) in
       let first : take (8 * f) B ++ take r W ≡ take (8 * f + r) B =
       ap (λ (l : List Bool). take (8 * f) B ++ l) (ap (take r) bits-window ∙ take-take r (8 * n) D (omega arith)) ∙ sym (take-add (8 * f) r B) in
-      let ends : 8 * (f + n) ≡ 8 * f + 8 * n = omega arith in
       let same : 8 * f + (r + w) ≡ 8 * f + r + w = omega arith in
-      let last : drop (r + w) W ++ bits (drop (f + n) b) ≡ drop (8 * f + r + w) B =
-      ap₂ (λ (x y : List Bool). drop (r + w) x ++ y) bits-window
-      (bits-drop b (f + n) inside ∙ ap (λ (k : ℕ). drop k B) ends ∙ sym (drop-drop (8 * n) (8 * f) B))
+      let last : drop (r + w) W ++ bits E ≡ drop (8 * f + r + w) B =
+      ap₂ (λ (x y : List Bool). drop (r + w) x ++ y) bits-window (bits-drop (drop f b) n long ∙ ap (drop (8 * n)) (bits-drop b f (omega arith)))
       ∙ drop-take-append D (r + w) (8 * n) h (omega (arith, length-drop (8 * f) B, length-bits b))
       ∙ drop-drop (r + w) (8 * f) B ∙ ap (λ (k : ℕ). drop k B) same in
-      bits-inj (take f b ++ p ++ drop (f + n) b) (set_field b (8 * f + r) w v)
-      (are-append (take f b ++ p) (drop (f + n) b) (are-append (take f b) p (are-take f b hb) (are-set_field (take n (drop f b)) r w v)) (are-drop (f + n) b hb))
-      (are-set_field b (8 * f + r) w v) le
-      (bits-append (take f b ++ p) (drop (f + n) b)
-      ∙ ap (λ (l : List Bool). l ++ bits (drop (f + n) b))
-      (bits-append (take f b) p
-      ∙ ap₂ (λ (x y : List Bool). x ++ y) (bits-take b f (omega arith)) (bits-set_field (take n (drop f b)) r w (omega (arith, length-window)) v))
-      ∙ regroup (take (8 * f) B) (take r W) (bits_of w v) (drop (r + w) W) (bits (drop (f + n) b))
+      bits-inj (take f b ++ (p ++ E)) (set_field b (8 * f + r) w v) hc (are-set_field b (8 * f + r) w v) le
+      (bits-append (take f b) (p ++ E)
+      ∙ ap₂ (λ (x y : List Bool). x ++ y) (bits-take b f (omega arith))
+      (bits-append p E ∙ ap (λ (l : List Bool). l ++ bits E) (bits-set_field (take n (drop f b)) r w (omega (arith, length-window)) v))
+      ∙ regroup (take (8 * f) B) (take r W) (bits_of w v) (drop (r + w) W) (bits E)
       ∙ ap₂ (λ (x y : List Bool). x ++ (bits_of w v ++ y)) first last
       ∙ sym (bits-set_field b (8 * f + r) w (omega arith) v))
     where
-      regroup : (a p m q c : List Bool) → a ++ (p ++ (m ++ q)) ++ c ≡ (a ++ p) ++ (m ++ (q ++ c))
+      regroup : (a p m q c : List Bool) → a ++ ((p ++ (m ++ q)) ++ c) ≡ (a ++ p) ++ (m ++ (q ++ c))
       regroup a p m q c = simp append_assoc
 
 -- ---- adjacent fields

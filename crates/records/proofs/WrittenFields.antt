@@ -76,43 +76,41 @@ pub written_none : (s₀ ws vs : List ℕ) → AreBytes s₀ → Written s₀ ws
 unfolding set_fields
 written_none s₀ ws vs b = record { bytes = b; place = omega arith; reached = refl; long = refl; set = refl }
 
-module _ {s₀ ws vs : List ℕ} (w : Writable s₀ ws vs) where
+module _ {s₀ ws vs : List ℕ} (k : Writable s₀ ws vs) where
   -- there are as many values
   pub counted : length vs ≡ length ws
-  counted = fit_length ws vs w.values
+  counted = fit_length ws vs k.values
 
   module _ {s : List ℕ} {at j : ℕ} (p : Written s₀ ws vs s at j) where
-    module _ (h : j < length ws) where
-      -- the next field has a width that can be written and lies in the bytes, and its value fits
-      pub next-wide : 0 < get_or ws j 0
-      next-wide = (width-at ws j w.widths.each h).0
+    -- the next width and its value
+    module _ {w v : ℕ} (h : j < length ws) (width : w ≡ get_or ws j 0) (value : v ≡ get_or vs j 0) where
+      -- it can be written and lies in the bytes, and its value fits
+      pub next_put : (0 < w) × ((w ≤ 57) × ((at + w ≤ 8 * length s) × (v < 2 ^ w)))
+      next_put =
+          let wide = width-at ws j k.widths.each h in
+          rw (width, value) (wide.0, (wide.1, (omega (arith, sum_more ws j h, k.widths.aligned), fit_at ws vs j k.values h)))
 
-      pub next-narrow : get_or ws j 0 ≤ 57
-      next-narrow = (width-at ws j w.widths.each h).1
+      pub next-counts : at + w < 2 ^ 64
+      next-counts = omega (arith, sum_more ws j h, k.widths.short)
 
-      pub next-inside : at + get_or ws j 0 ≤ 8 * length s
-      next-inside = omega (arith, sum_more ws j h, w.widths.aligned)
-
-      pub next_fits : get_or vs j 0 < 2 ^ get_or ws j 0
-      next_fits = fit_at ws vs j w.values h
-
-      pub next-counts : at + get_or ws j 0 < 2 ^ 64
-      next-counts = omega (arith, sum_more ws j h, w.widths.short)
-
-      pub written_next : (t : List ℕ) → t ≡ set_field s at (get_or ws j 0) (get_or vs j 0) → Written s₀ ws vs t (at + get_or ws j 0) (j + 1)
-      written_next t e =
+      written_more : (t : List ℕ) → t ≡ set_field s at w v → Written s₀ ws vs t (at + w) (j + 1)
+      written_more t e =
           let f : t ≡ set_fields s₀ 0 (take (j + 1) ws) vs =
-          e ∙ ap₂ (λ (l : List ℕ) (k : ℕ). set_field l k (get_or ws j 0) (get_or vs j 0)) p.set p.reached ∙ sym (set_fields-next s₀ ws vs j h w.values) in
+          e ∙ ap₂ (λ (m n : ℕ). set_field s at m n) width value
+          ∙ ap₂ (λ (l : List ℕ) (n : ℕ). set_field l n (get_or ws j 0) (get_or vs j 0)) p.set p.reached ∙ sym (set_fields-next s₀ ws vs j h k.values) in
           record {
             bytes = p.bytes;
             place = omega arith;
-            reached = ap (λ (k : ℕ). k + get_or ws j 0) p.reached ∙ sym (sum-next ws j h);
+            reached = ap₂ (λ (m n : ℕ). m + n) p.reached width ∙ sym (sum-next ws j h);
             long = ap length f ∙ length-set_fields s₀ 0 (take (j + 1) ws) vs;
             set = f;
           }
+
+      pub written_next : (t : List ℕ) (i : ℕ) → t ≡ set_field s at w v → i ≡ j + 1 → Written s₀ ws vs t (at + w) i
+      written_next t i e next = rw next (written_more t e)
 
     -- all of them
     pub written_all : length ws ≤ j → s ≡ replace_at 0 (pack ws vs) s₀
     written_all h =
         p.set ∙ ap (λ (l : List ℕ). set_fields s₀ 0 l vs) (take_all j ws h)
-        ∙ set_fields-within s₀ 0 ws vs p.bytes w.widths.aligned (omega (arith, w.room)) w.values
+        ∙ set_fields-within s₀ 0 ws vs p.bytes k.widths.aligned (omega (arith, k.room)) k.values

@@ -22,7 +22,3 @@ zero_at at n b = all_zero (take n (drop at b))
 -- the bytes from `from` up to `to` are edited, and no other
 unfoldable pub on_part : ℕ → ℕ → (List ℕ → List ℕ) → List ℕ → List ℕ
 on_part from to f b = take from b ++ (f (take (to - from) (drop from b)) ++ drop to b)
-
--- the n bytes from byte `from` on are copied to byte `to` on
-unfoldable pub copied : ℕ → ℕ → ℕ → List ℕ → List ℕ
-copied from to n b = take to b ++ (take n (drop from b) ++ drop (to + n) b)

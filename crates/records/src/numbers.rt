@@ -5,33 +5,14 @@ ghost use Rattle.records.specs.Pack.{pack};
 ghost use Rattle.records.specs.Edits.{replace_at};
 ghost use Rattle.records.specs.Widths.{Writable};
 
-// What the field of w bits from bit `at` on holds, of at most 32.
-pub fn get(s: &[u8], at: usize, w: usize) -> u32
-    requires { (0 < w) × ((w ≤ 32) × (at + w ≤ 8 * length s.now)) }
-    ensures { result ≡ field_at s.now at w }
-{
-    fields::get(s, at, w) as u32
-}
-
-// The same, all of it in the window of eight bytes from byte `first` on.
-pub fn get_window(s: &[u8], first: usize, at: usize, w: usize) -> u32
-    requires { (0 < w) × ((w ≤ 32) × ((first + 8 ≤ length s.now) × ((8 * first ≤ at) × (at + w ≤ 8 * first + 64)))) }
-    ensures { result ≡ field_at s.now at w }
-{
-    fields::get_window(s, first, at, w) as u32
-}
-
 // Writes the values into the fields of these widths, one after the other from the first bit on: the record of the values stands first.
 pub fn put_all(s: &mut [u8], widths: &[usize], values: &[u64])
     requires { Writable s.old widths.now values.now }
     ensures { s.new ≡ replace_at 0 (pack widths.now values.now) s.old }
 {
     let mut at: usize = 0;
-    let mut j = 0;
-    while j < widths.len() {
-        let w = widths[j];
-        fields::put(s, at, w, values[j]);
-        at += w;
-        j += 1;
+    for (w, v) in widths.iter().zip(values) {
+        fields::put(s, at, *w, *v);
+        at += *w;
     }
 }
