@@ -12,7 +12,6 @@ use fields::get_window;
 use layout::CONTRACT_LENGTH;
 use rates::Contract;
 use records::numbers::put_all;
-use rules::codes;
 use rules::codes::ContractNumbers;
 use rules::ranges::contract_ranges;
 
@@ -65,16 +64,14 @@ const WIDTHS: [usize; NUMBERS] = [
 ];
 
 // Whether a contract's slot is open.
-pub fn is_open(s: &[u8]) -> bool
-    requires { length s.now ≡ contract_length }
+pub fn is_open(s: &[u8; CONTRACT_LENGTH]) -> bool
     ensures { result ≡ is_taken contract_record s.now }
 {
     get_window::<u32>(s, 0, 0, 1) != 0
 }
 
 // The numbers of the contract that a slot holds.
-fn numbers_in(s: &[u8]) -> ContractNumbers
-    requires { length s.now ≡ contract_length }
+fn numbers_in(s: &[u8; CONTRACT_LENGTH]) -> ContractNumbers
     ensures { listed result ≡ record_fields contract_record (slot_numbers contract_record s.now) }
 {
     ContractNumbers {
@@ -92,81 +89,74 @@ fn numbers_in(s: &[u8]) -> ContractNumbers
 }
 
 // The contract that a slot holds.
-pub fn unpack_contract(s: &[u8]) -> Contract
-    requires { length s.now ≡ contract_length }
+pub fn unpack_contract(s: &[u8; CONTRACT_LENGTH]) -> Contract
     ensures { result ≡ record_in contract_record s.now }
 {
-    codes::contract_of(numbers_in(s))
+    Contract::from(numbers_in(s))
 }
 
 // The numbers of the slot that holds the contract.
 fn slot_numbers(contract: Contract) -> [u64; NUMBERS]
     ensures { result ≡ 1 ∷ (contract_record.values contract ++ zeros_for contract_record.zeros) }
 {
-    let fuel = contract.fuel;
-    let kind = contract.kind;
-    let certificate = contract.certificate;
-    let amendment = contract.amendment;
+    let numbers = ContractNumbers::from(contract);
     [
         1,
-        codes::fuel_code(fuel) as u64,
-        codes::kind_code(kind) as u64,
-        codes::price_fix_day(kind) as u64,
-        codes::entry_day(kind) as u64,
-        codes::class_code(certificate) as u64,
-        codes::effective_day(certificate) as u64,
-        codes::amendment_flag(amendment) as u64,
-        codes::original_end_day(amendment) as u64,
-        codes::amended_price_fix_day(amendment) as u64,
-        codes::amended_entry_day(amendment) as u64,
+        u64::from(numbers.fuel),
+        u64::from(numbers.kind),
+        u64::from(numbers.price_fix_day),
+        u64::from(numbers.entry_day),
+        u64::from(numbers.class),
+        u64::from(numbers.effective_day),
+        u64::from(numbers.amendment_flag),
+        u64::from(numbers.original_end_day),
+        u64::from(numbers.amended_price_fix_day),
+        u64::from(numbers.amended_entry_day),
         0,
     ]
 }
 
 // The slot that holds the contract.
-pub fn pack_contract(s: &mut [u8], contract: Contract)
-    requires { (length s.old ≡ contract_length) × Fit contract_record.widths (contract_record.values contract) }
-    ensures { s.new ≡ record_bytes contract_record contract }
+pub fn packed_contract(contract: Contract) -> [u8; CONTRACT_LENGTH]
+    requires { Fit contract_record.widths (contract_record.values contract) }
+    ensures { result ≡ record_bytes contract_record contract }
 {
-    let widths = WIDTHS;
-    let values = slot_numbers(contract);
-    put_all(s, &widths, &values);
+    let mut slot = [0; CONTRACT_LENGTH];
+    put_all(&mut slot, &WIDTHS, &slot_numbers(contract));
+    slot
 }
 
 // A bit of the zeros is set.
-fn padding_set(s: &[u8]) -> bool
-    requires { length s.now ≡ contract_length }
+fn padding_set(s: &[u8; CONTRACT_LENGTH]) -> bool
     ensures { result ≡ not (all_zero (drop (suc (length contract_record.widths)) (slot_numbers contract_record s.now))) }
 {
     get_window::<u32>(s, LAST_WINDOW, ZEROS_AT, ZERO_BITS) != 0
 }
 
 // The numbers of an open contract's slot keep their ranges.
-fn in_ranges(s: &[u8], territory: u32) -> bool
-    requires { length s.now ≡ contract_length }
+fn in_ranges(s: &[u8; CONTRACT_LENGTH], territory: u32) -> bool
     ensures { result ≡ contract_ranges territory (record_fields contract_record (slot_numbers contract_record s.now)) }
 {
     contract_ranges(territory, numbers_in(s))
 }
 
 // All of the slot is zero.
-fn all_zero(s: &[u8]) -> bool
-    requires { length s.now ≡ contract_length }
+fn all_zero(s: &[u8; CONTRACT_LENGTH]) -> bool
     ensures { result ≡ all_zero (slot_numbers contract_record s.now) }
 {
     records::is_zero(s, 0, CONTRACT_LENGTH)
 }
 
 // Whether a contract's slot is as it must be: zeros last, all zeros where it is not open, and its numbers in their ranges.
-pub fn slot_ok(s: &[u8], territory: u32) -> bool
-    requires { length s.now ≡ contract_length }
+pub fn slot_ok(s: &[u8; CONTRACT_LENGTH], territory: u32) -> bool
     ensures { result ≡ slot_ok contract_record (contract_ranges territory) (slot_numbers contract_record s.now) }
 {
     if padding_set(s) {
         return false;
     }
     if is_open(s) {
-        return in_ranges(s, territory);
+        in_ranges(s, territory)
+    } else {
+        all_zero(s)
     }
-    all_zero(s)
 }

@@ -73,24 +73,21 @@ const WIDTHS: [usize; NUMBERS] = [
 ];
 
 // Whether a row's slot is held.
-pub fn is_held(s: &[u8]) -> bool
-    requires { length s.now ≡ row_length }
+pub fn is_held(s: &[u8; ROW_LENGTH]) -> bool
     ensures { result ≡ is_taken row_record s.now }
 {
     get_window::<u32>(s, 0, 0, 1) != 0
 }
 
 // A bit of the zeros is set.
-pub fn padding_set(s: &[u8]) -> bool
-    requires { length s.now ≡ row_length }
+pub fn padding_set(s: &[u8; ROW_LENGTH]) -> bool
     ensures { result ≡ not (all_zero (drop (suc (length row_record.widths)) (slot_numbers row_record s.now))) }
 {
     get_window::<u32>(s, AMOUNT_WINDOW, ZEROS_AT, ZERO_BITS) != 0
 }
 
 // The row that a slot holds.
-pub fn unpack_row(s: &[u8]) -> Row
-    requires { length s.now ≡ row_length }
+pub fn unpack_row(s: &[u8; ROW_LENGTH]) -> Row
     ensures { result ≡ record_in row_record s.now }
 {
     Row {
@@ -115,27 +112,27 @@ fn slot_numbers(row: Row) -> [u64; NUMBERS]
     let bill = row.bill;
     [
         1,
-        bill.contract as u64,
-        bill.first as u64,
-        bill.last as u64,
-        bill.kwh as u64,
-        bill.etii as u64,
-        bill.qhs as u64,
-        bill.reference as u64,
-        bill.supply as u64,
+        u64::from(bill.contract),
+        u64::from(bill.first),
+        u64::from(bill.last),
+        u64::from(bill.kwh),
+        u64::from(bill.etii),
+        u64::from(bill.qhs),
+        u64::from(bill.reference),
+        u64::from(bill.supply),
         row.amount,
         0,
     ]
 }
 
 // The slot that holds the row.
-pub fn pack_row(s: &mut [u8], row: Row)
-    requires { (length s.old ≡ row_length) × Fit row_record.widths (row_record.values row) }
-    ensures { s.new ≡ record_bytes row_record row }
+pub fn packed_row(row: Row) -> [u8; ROW_LENGTH]
+    requires { Fit row_record.widths (row_record.values row) }
+    ensures { result ≡ record_bytes row_record row }
 {
-    let widths = WIDTHS;
-    let values = slot_numbers(row);
-    put_all(s, &widths, &values);
+    let mut slot = [0; ROW_LENGTH];
+    put_all(&mut slot, &WIDTHS, &slot_numbers(row));
+    slot
 }
 
 // Writes the amount of the row that a slot holds.

@@ -8,4 +8,4 @@ use Rattle.codec.proofs.contracts.all_zero.Goals as goal
 
 pub returns : goal.returns
 unfolding size
-returns c = zero-numbers contract_record _ contract-widths (λ i. omega (arith, c.type_inv.s i)) c.requires _ c.is_zero.ensures
+returns c = zero-numbers contract_record _ contract-widths (λ i. omega (arith, c.fits-s i)) c.told-s _ c.is_zero.ensures

@@ -8,5 +8,5 @@ returns-then-padding_set c = search slot-tests
 pub returns-then-is_open : goal.returns-then-is_open
 returns-then-is_open c = search slot-tests
 
-pub returns : goal.returns
-returns c = search slot-tests
+pub returns-else-is_open : goal.returns-else-is_open
+returns-else-is_open c = search slot-tests

@@ -6,4 +6,4 @@ use Rattle.codec.proofs.contracts.unpack_contract.Goals as goal
 
 pub returns : goal.returns
 unfolding record_in
-returns c = c.contract_of.ensures ∙ ap contract_of_numbers c.numbers_in.ensures
+returns c = c.from.ensures ∙ ap contract_of_numbers c.numbers_in.ensures

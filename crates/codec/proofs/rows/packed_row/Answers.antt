@@ -1,9 +1,9 @@
--- `pack_row` sets all the numbers of the slot.
+-- `packed_row` sets all the numbers of the slot.
 use Rattle.records.specs.Pack.{size}
 use Rattle.layout.specs.PresentLayout.{row_record}
 use Rattle.records.proofs.WrittenSlots.{slot-writable, slot-written}
 use Rattle.codec.proofs.WholeSlots.{row-widths}
-use Rattle.codec.proofs.rows.pack_row.Goals as goal
+use Rattle.codec.proofs.rows.packed_row.Goals as goal
 
 pub put_all-requires : goal.put_all-requires
 unfolding size

@@ -1,9 +1,9 @@
--- `pack_contract` sets all the numbers of the slot.
+-- `packed_contract` sets all the numbers of the slot.
 use Rattle.records.specs.Pack.{size}
 use Rattle.layout.specs.PresentLayout.{contract_record}
 use Rattle.records.proofs.WrittenSlots.{slot-writable, slot-written}
 use Rattle.codec.proofs.WholeSlots.{contract-widths}
-use Rattle.codec.proofs.contracts.pack_contract.Goals as goal
+use Rattle.codec.proofs.contracts.packed_contract.Goals as goal
 
 pub put_all-requires : goal.put_all-requires
 unfolding size
