@@ -13,5 +13,5 @@ pub returns : goal.returns
 returns c =
     let t = c.args.territory in
     c.write_header.ensures
-    ∙ ap (replace_at 0 (pack layout.header (t ∷ 0 ∷ 0 ∷ []))) (c.clear.ensures ∙ ap (λ (n : ℕ). replicate n 0) c.requires.0)
+    ∙ ap (replace_at 0 (pack layout.header (t ∷ 0 ∷ 0 ∷ []))) (c.clear.ensures ∙ ap (λ (n : ℕ). replicate n 0) c.told-b)
     ∙ sym (fresh_ledger t)

@@ -16,4 +16,4 @@ returns c =
     let a = c.args in
     let end : ℕ = row_start (a.rows + 1) in
     part-lent first_row end (insert_at (a.i * row_length) (record_bytes row_record a.row)) a.b.now c.insert.new.b (omega arith)
-    (c.insert.ensures ∙ ap (λ (x : List ℕ). insert_at (a.i * row_length) x (mid_of first_row (end - first_row) a.b.now)) c.pack_row.ensures)
+    (c.insert.ensures ∙ ap (λ (x : List ℕ). insert_at (a.i * row_length) x (mid_of first_row (end - first_row) a.b.now)) c.packed_row.ensures)

@@ -21,7 +21,7 @@ put_amount-requires c =
     let b = c.args.b.now in
     let at = row_start c.args.i in
     let lent : at + row_length - at ≡ row_length = omega arith in
-    rw lent (length-take-le row_length (drop at b) (omega (arith, c.requires.0, length-drop at b)), c.requires.1.1)
+    rw lent (length-take-le row_length (drop at b) (omega (arith, c.told-b, length-drop at b)), (c.requires.packed, c.requires.low))
 
 pub returns : goal.returns
 returns c =
