@@ -7,6 +7,7 @@ use Prim.Native.Nat.{ℕ, zero, suc, ◌≤◌}
 use native.Mathlib.Omega.{arith}
 use lib.ListN.{length}
 use Rattle.refusals.specs.declared.Refusal.{Refusal}
+use Rattle.refusals.specs.Numbers.{number_of}
 use Rattle.model.specs.declared.Answer.{Answer}
 use Rattle.model.specs.Calls.{CallWithBook}
 use Rattle.model.specs.Rules.{Rules, refusal, unless_refused}
@@ -37,7 +38,7 @@ module _ {R : Rules} {L : Layout} (laws : Lawful R L) (b : List ℕ) where
 
   -- what each finding says
   abbrev Says : Result Totals Refusal → Type 0
-  Says (Err r) = is_well_formed R L b ≡ false
+  Says (Err r) = (is_well_formed R L b ≡ false) × (number_of r ≡ 2)
   Says (Ok t) = Sound R L b t.rows t.due
 
   check-says : {r : Result Totals Refusal} → r ≡ checked_of R L b → Says r
@@ -46,13 +47,13 @@ module _ {R : Rules} {L : Layout} (laws : Lawful R L) (b : List ℕ) where
     where
       go : (f : Bool) → is_well_formed R L b ≡ f → Says (cond f (well_formed (length l.rows) (due l)) malformed)
       go true w = record { formed = w; count = refl; total = refl; packed = sym (repacked laws b w); facts = (format-laws laws).unpacked b w }
-      go false w = w
+      go false w = (w, refl)
 
-  pub check-malformed : malformed ≡ checked_of R L b → is_well_formed R L b ≡ false
-  check-malformed e = check-says e
+  pub check-malformed : (r : Refusal) → Err r ≡ checked_of R L b → (is_well_formed R L b ≡ false) × (number_of r ≡ 2)
+  check-malformed r e = check-says e
 
-  pub check_sound : (rows sum : ℕ) → well_formed rows sum ≡ checked_of R L b → Sound R L b rows sum
-  check_sound rows sum e = check-says e
+  pub check_sound : (t : Totals) → Ok t ≡ checked_of R L b → Sound R L b t.rows t.due
+  check_sound t e = check-says e
 
   pub searched : {rows sum : ℕ} → Sound R L b rows sum → Searched R L b rows
   searched s = record { formed = s.formed; count = s.count }
@@ -81,5 +82,7 @@ module _ {R : Rules} {L : Layout} (laws : Lawful R L) (b : List ℕ) where
     machine-accepted e r = answers_by e 0 r
 
 module _ {R : Rules} {L : Layout} (laws : Lawful R L) (b : List ℕ) (c : CallWithBook) where
-  pub malformed-refused : malformed ≡ checked_of R L b → Answers R L b c (Err 2) b
-  malformed-refused e = machine-malformed laws b c (check-malformed laws b e)
+  pub malformed-refused : (r : Refusal) → Err r ≡ checked_of R L b → Answers R L b c (Err (number_of r)) b
+  malformed-refused r e =
+      let m = check-malformed laws b r e in
+      subst (λ (n : ℕ). Answers R L b c (Err n) b) (sym m.1) (machine-malformed laws b c m.0)

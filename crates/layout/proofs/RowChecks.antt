@@ -112,7 +112,7 @@ module _ {R : Rules} {L : Layout} (laws : Lawful R L) where
 
     abbrev Says : Result (Option Row) Refusal → Type 0
     Says (Ok None) = get_or v 0 0 ≡ 0
-    Says (Err r) = (eqb (get_or v 0 0) 0 ≡ false) × (all_zero (drop (suc (length L.row.widths)) v) ≡ false)
+    Says (Err r) = (r ≡ NotWellFormed) × (eqb (get_or v 0 0) 0 ≡ false) × (all_zero (drop (suc (length L.row.widths)) v) ≡ false)
     Says (Ok (Some x)) = HeldSlot x
 
     read-says : {r : Result (Option Row) Refusal} → r ≡ slot_read R L v → Says r
@@ -121,7 +121,7 @@ module _ {R : Rules} {L : Layout} (laws : Lawful R L) where
       where
         go : (f : Bool) → eqb (get_or v 0 0) 0 ≡ f → (z : Bool) → all_zero (drop (suc (length L.row.widths)) v) ≡ z → Says (cond f (Ok None) (cond z (Ok (Some (record_of L.row v))) (Err NotWellFormed)))
         go true f z h = eq_yes (get_or v 0 0) 0 f
-        go false f false h = (f, h)
+        go false f false h = (refl, f, h)
         go false f true h = record { taken = f; padded = h; holding = refl }
 
     pub row-of-slot : {x : Row} → Ok (Some x) ≡ slot_read R L v → x ≡ record_of L.row v
@@ -176,9 +176,9 @@ module _ {R : Rules} {L : Layout} (laws : Lawful R L) where
         not-good taken e = sym (found-bad L.row (row_ok R cs) holds follows (λ x. x.amount) malformed well_formed (contract, last) i due v vs taken e) ∙ here
 
         -- one of the bits that must stay zero is not
-        pub slot-malformed : Err NotWellFormed ≡ slot_read R L v → malformed ≡ rows_checked_of R L b
+        pub slot-refused : {r : Refusal} → Err r ≡ slot_read R L v → Err r ≡ rows_checked_of R L b
         unfolding slot_ok
-        slot-malformed f = let g = read-says v f in not-good g.0 (rw g.1)
+        slot-refused f = let g = read-says v f in ap (λ (r : Refusal). Err r) g.0 ∙ not-good g.1 (rw g.2)
 
         -- the slot holds the row x
         module _ {x : Row} (f : Ok (Some x) ≡ slot_read R L v) where

@@ -13,6 +13,10 @@ first_contract = sum present_layout.header / 8
 abbrev pub contract_length : ℕ
 contract_length = sum (whole contract_record) / 8
 
+-- the bytes of the contract's slot with that number
+abbrev pub contract_part : List ℕ → ℕ → List ℕ
+contract_part b c = take contract_length (drop (first_contract + c * contract_length) b)
+
 -- and the rows after the contracts
 abbrev pub first_row : ℕ
 first_row = first_contract + contract_count * contract_length

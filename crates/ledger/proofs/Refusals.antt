@@ -1,15 +1,16 @@
 -- The first of a call's tests that fits, from what each test finds; and what a call answers by it. Assumes nothing.
+use Rattle.std.specs.Prelude.{Ok, Err}
 use mathlib.Core.Path.{◌≡◌, sym, ap, ◌∙◌}
 use mathlib.Core.Bool.{Bool, true, false, not, cond}
 use mathlib.Core.List.{List, ◌++◌}
-use Prim.Native.Nat.{ℕ, ◌≤◌, ◌<◌}
-use native.Mathlib.Omega.{arith}
+use Prim.Native.Nat.{ℕ, ◌<◌}
 use lib.Dec.{T}
-use lib.ListN.{length}
 use Rattle.basics.proofs.Tests.{le-no, not-no}
 use Rattle.limits.specs.Limits.{contract_count}
+use Rattle.refusals.specs.declared.Refusal.{Refusal}
+use Rattle.refusals.specs.Numbers.{number_of}
+use Rattle.refusals.proofs.SomeNumber.{some-number}
 use Rattle.model.specs.declared.Answer.{Answer}
-use Rattle.model.specs.declared.Answer.TheVariants.{Refused}
 use Rattle.model.specs.OpenContracts.{is_open}
 use Rattle.model.specs.Calls.{CallWithBook, View, Test, first_of}
 use Rattle.model.specs.Rules.{refusal}
@@ -18,11 +19,9 @@ use Rattle.model.specs.PresentRules.{open_tests}
 use Rattle.model.proofs.Refusals.{fits_at, numbered, clear, refused-first, refused-later}
 use Rattle.basics.proofs.TestChains.{tests, was-true, was-false}
 use Rattle.layout.specs.Layout.{ledger_of}
-use Rattle.layout.specs.declared.Checked.{Checked}
-use Rattle.layout.specs.declared.Checked.TheVariants.{Malformed, WellFormed}
-use Rattle.layout.specs.Offsets.{first_contract}
+use Rattle.layout.specs.declared.Totals.{Totals}
 use Rattle.layout.specs.Present.{rules, facts, bytes, Formed, contracts, checked_of, Searched}
-use Rattle.layout.proofs.Present.{present, formed-length}
+use Rattle.layout.proofs.Present.{present}
 use Rattle.layout.proofs.Machine.{malformed-refused, machine-refused, machine-accepted, check_sound, searched}
 use Rattle.ledger.specs.Answered.{view_of, Summed, Answered}
 
@@ -71,33 +70,31 @@ module _ (b : List ℕ) (c n : ℕ) (first : n ≡ first_of (open_tests (view_of
   unfolding open_tests view ledger_of
   contract-open = not-no _ (passed 5)
 
--- a well-formed ledger has a header
-pub header-there : (b : List ℕ) → Formed b → first_contract ≤ length b
-header-there b f = omega (arith, formed-length b f)
-
 -- ---- what a call answers and leaves
 
 module _ (b : List ℕ) (call : CallWithBook) where
-  pub refused-answered : (n : ℕ) → Formed b → n ≡ refusal rules (view_of b) call → (n ≡ 0 → ⊥) → Answered b call (Refused n) b
-  refused-answered n f e some =
-      let m = machine-refused present b call f n (omega arith) (sym e) in
+  pub refused-answered : (r : Refusal) → Formed b → number_of r ≡ refusal rules (view_of b) call → Answered b call (Err r) b
+  refused-answered r f e =
+      let m = machine-refused present b call f (number_of r) (some-number r) (sym e) in
       record { answered = sym m.answered; left = sym m.left }
 
   pub accepted-answered : {a : Answer} {after : List ℕ} → Formed b → 0 ≡ refusal rules (view_of b) call
-      → a ≡ (accept rules (facts b) call).answers → after ≡ bytes (accept rules (facts b) call).next → Answered b call a after
+      → Ok a ≡ (accept rules (facts b) call).answers → after ≡ bytes (accept rules (facts b) call).next → Answered b call (Ok a) after
   accepted-answered f e said left =
       let m = machine-accepted present b call f (sym e) in
       record { answered = said ∙ sym m.answered; left = left ∙ sym m.left }
 
 -- ---- what a check found
 
-module _ (b : List ℕ) (found : Checked) (e : found ≡ checked_of b) where
-  pub malformed-answered : (call : CallWithBook) → found ≡ Malformed → Answered b call (Refused 2) b
-  malformed-answered call f = let m = malformed-refused present b call (sym f ∙ e) in record { answered = sym m.answered; left = sym m.left }
+module _ (b : List ℕ) where
+  pub malformed-answered : (r : Refusal) → Err r ≡ checked_of b → (call : CallWithBook) → Answered b call (Err r) b
+  malformed-answered r e call =
+      let m = malformed-refused present b call r e in
+      record { answered = sym m.answered; left = sym m.left }
 
-  module _ (rows sum : ℕ) (f : found ≡ WellFormed rows sum) where
-    pub check-searched : Searched b rows
-    check-searched = searched present b (check_sound present b rows sum (sym f ∙ e))
+  module _ (t : Totals) (e : Ok t ≡ checked_of b) where
+    pub check-searched : Searched b t.rows
+    check-searched = searched present b (check_sound present b t e)
 
-    pub check-summed : Summed b rows sum
-    check-summed = record { searched = check-searched; total = (check_sound present b rows sum (sym f ∙ e)).total }
+    pub check-summed : Summed b t.rows t.due
+    check-summed = record { searched = check-searched; total = (check_sound present b t e).total }

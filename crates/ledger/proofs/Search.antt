@@ -48,13 +48,16 @@ module _ (b : List ℕ) (rows : ℕ) (s : Searched b rows) where
   pub search-begins : (p : Bill → Bool) → Between b p 0 rows
   search-begins p = record { from = omega arith; to = omega (arith, s.count, place-le p (facts b).rows) }
 
-  -- row i passes, or doesn't
-  module _ (p : Bill → Bool) (low high i : ℕ) (t : Between b p low high) (x : Row) (read : x ≡ row_at b i) (r : Bool) (e : r ≡ p x.bill) (h : i < rows) where
-    there : r ≡ p (get_or (facts b).rows i x).bill
-    there = e ∙ ap (λ (y : Row). p y.bill) (row_read b rows i s h x read)
+  -- row i passes, or doesn't; x is its bill
+  module _ (p : Bill → Bool) (low high i : ℕ) (t : Between b p low high) (x : Bill) (read : x ≡ (row_at b i).bill) (r : Bool) (e : r ≡ p x) (h : i < rows) where
+    abbrev row : Row
+    row = row_at b i
+
+    there : r ≡ p (get_or (facts b).rows i row).bill
+    there = e ∙ ap p read ∙ ap (λ (y : Row). p y.bill) (row_read b rows i s h row refl)
 
     pub row-passes : r ≡ true → Between b p low i
-    row-passes y = record { from = t.from; to = passed-row p (facts b).rows x i (sym there ∙ y) }
+    row-passes y = record { from = t.from; to = passed-row p (facts b).rows row i (sym there ∙ y) }
 
     -- every row before i having failed
     pub row-fails : i ≤ low → r ≡ false → Between b p (i + 1) high
@@ -63,14 +66,14 @@ module _ (b : List ℕ) (rows : ℕ) (s : Searched b rows) where
         past : ltb i (place_of p (facts b).rows) ≡ false → i + 1 ≤ place_of p (facts b).rows
         past l =
             let m : place_of p (facts b).rows ≡ i = omega (arith, lt_no i (place_of p (facts b).rows) l, t.from) in
-            let c = passes-at-place p x (facts b).rows (omega (arith, s.count)) in
-            absurd (true≢false (sym (ap (λ (n : ℕ). p (get_or (facts b).rows n x).bill) (sym m) ∙ c) ∙ sym there ∙ n))
+            let c = passes-at-place p row (facts b).rows (omega (arith, s.count)) in
+            absurd (true≢false (sym (ap (λ (n : ℕ). p (get_or (facts b).rows n row).bill) (sym m) ∙ c) ∙ sym there ∙ n))
 
   -- by halves
-  module _ (contract day low high i : ℕ) (t : Between b (reaches contract day) low high) (x : Row) (read : x ≡ row_at b i) (r : Bool) (e : r ≡ reaches contract day x.bill) (h : i < rows) where
+  module _ (contract day low high i : ℕ) (t : Between b (reaches contract day) low high) (x : Bill) (read : x ≡ (row_at b i).bill) (r : Bool) (e : r ≡ reaches contract day x) (h : i < rows) where
     pub upper-half : r ≡ false → Between b (reaches contract day) (i + 1) high
     upper-half n =
-        let m = failed_row (reaches contract day) (facts b).rows (reaches-rising contract day (facts b).rows (spans b rows s) (apart b rows s)) x i (row-there b rows i s h) (sym (there (reaches contract day) low high i t x read r e h) ∙ n) in
+        let m = failed_row (reaches contract day) (facts b).rows (reaches-rising contract day (facts b).rows (spans b rows s) (apart b rows s)) (row_at b i) i (row-there b rows i s h) (sym (there (reaches contract day) low high i t x read r e h) ∙ n) in
         record { from = omega arith; to = t.to }
 
   -- ---- the first of the rows from place i on
@@ -78,9 +81,9 @@ module _ (b : List ℕ) (rows : ℕ) (s : Searched b rows) where
   pub first-none : (q : Bill → Bool) (i : ℕ) → rows ≤ i → false ≡ first_passes q (drop i (facts b).rows)
   first-none q i h = none-beyond q (facts b).rows i (omega (arith, s.count))
 
-  pub first-there : (q : Bill → Bool) (i : ℕ) (x : Row) → x ≡ row_at b i → i < rows → (r : Bool) → r ≡ q x.bill → r ≡ first_passes q (drop i (facts b).rows)
+  pub first-there : (q : Bill → Bool) (i : ℕ) (x : Bill) → x ≡ (row_at b i).bill → i < rows → (r : Bool) → r ≡ q x → r ≡ first_passes q (drop i (facts b).rows)
   first-there q i x read h r e =
-      e ∙ ap (λ (y : Row). q y.bill) (row_read b rows i s h x read) ∙ sym (ap (first_passes q) (drop-cons (facts b).rows i x (row-there b rows i s h)))
+      e ∙ ap q read ∙ ap (λ (y : Row). q y.bill) (row_read b rows i s h (row_at b i) refl) ∙ sym (ap (first_passes q) (drop-cons (facts b).rows i (row_at b i) (row-there b rows i s h)))
 
   -- ---- the row with a contract and first day
 
@@ -94,7 +97,7 @@ module _ (b : List ℕ) (rows : ℕ) (s : Searched b rows) where
     pub named_none : rows ≤ place → rows ≡ place_of (named contract first) (facts b).rows
     named_none h = named_by false (first-none (named contract first) place h)
 
-    module _ (h : place < rows) (x : Row) (read : x ≡ row_at b place) (r : Bool) (e : r ≡ named contract first x.bill) where
+    module _ (h : place < rows) (x : Bill) (read : x ≡ (row_at b place).bill) (r : Bool) (e : r ≡ named contract first x) where
       pub named-there : r ≡ true → place ≡ place_of (named contract first) (facts b).rows
       named-there y = named_by true (sym y ∙ first-there (named contract first) place x read h r e)
 
@@ -113,7 +116,7 @@ module _ (b : List ℕ) (rows : ℕ) (s : Searched b rows) (contract day place :
   pub none-ends : rows ≤ place → false ≡ ltb 0 ((view_of b).held (ends_after contract day))
   none-ends h = ended_by false (first-none b rows s (ends_after contract day) place h)
 
-  pub first_ends : (x : Row) → x ≡ row_at b place → place < rows → (r : Bool) → r ≡ ends_after contract day x.bill → r ≡ ltb 0 ((view_of b).held (ends_after contract day))
+  pub first_ends : (x : Bill) → x ≡ (row_at b place).bill → place < rows → (r : Bool) → r ≡ ends_after contract day x → r ≡ ltb 0 ((view_of b).held (ends_after contract day))
   first_ends x read h r e = ended_by r (first-there b rows s (ends_after contract day) place x read h r e)
 
 pub search-ends : (b : List ℕ) (p : Bill → Bool) (low high : ℕ) → Between b p low high → high ≤ low → low ≡ place_of p (facts b).rows

@@ -1,3 +1,3 @@
--- What a contract's slot holds, a row under it, and what a call owes.
+-- A row under its contract, and what a call owes.
 pub mod Rows
 pub mod Answered

@@ -1,65 +1,49 @@
 // Open contracts by their number.
-ghost use Rattle.std.specs.Prelude.{◌≡◌, true, ◌<◌, length};
+ghost use Rattle.std.specs.Prelude.{◌≡◌, ◌<◌, IfOk};
 ghost use Rattle.limits.specs.Limits.{contract_count};
+ghost use Rattle.refusals.specs.Numbers.{refusal_in};
 ghost use Rattle.model.specs.Calls.{first_of};
 ghost use Rattle.model.specs.PresentRules.{open_tests};
-ghost use Rattle.model.specs.OpenContracts.{contract_at, is_open};
-ghost use Rattle.layout.specs.Offsets.{ledger_length};
+ghost use Rattle.model.specs.OpenContracts.{contract_at};
+ghost use Rattle.layout.specs.Offsets.{contract_part};
 ghost use Rattle.layout.specs.Present.{contracts};
-ghost use Rattle.ledger.specs.Rows.{contract_slot_of};
 ghost use Rattle.ledger.specs.Answered.{view_of};
 
-use layout::{CONTRACT_LENGTH, FIRST_CONTRACT};
+use codec::contracts::{is_open, unpack_contract};
+use layout::{CONTRACT_LENGTH, FIRST_CONTRACT, LEDGER_LENGTH};
 use limits::CONTRACT_COUNT;
 use rates::Contract;
+use refusals::{Refusal, refuse_if};
 
-// What a contract's slot holds: nothing, as the number isn't open, or the contract.
-#[derive(Clone, Copy)]
-pub enum ContractSlot {
-    Closed,
-    Open(Contract),
-}
-
-// Whether the contract with that number is open.
-pub fn is_open(b: &[u8], c: usize) -> bool
-    requires { (length b.now ≡ ledger_length) × (c < contract_count) }
-    ensures { result ≡ is_open (contracts b.now) c }
+// The slot of the contract with that number.
+pub(crate) fn slot(b: &[u8; LEDGER_LENGTH], c: usize) -> &[u8; CONTRACT_LENGTH]
+    requires { c < contract_count }
+    ensures { result.now ≡ contract_part b.now c }
 {
     let at = FIRST_CONTRACT + c * CONTRACT_LENGTH;
-    codec::contracts::is_open(&b[at..at + CONTRACT_LENGTH])
+    b[at..at + CONTRACT_LENGTH].as_array().unwrap()
 }
 
-// The open contract with that number.
-pub fn contract_at(b: &[u8], c: usize) -> Contract
-    requires { (length b.now ≡ ledger_length) × ((c < contract_count) × (is_open (contracts b.now) c ≡ true)) }
-    ensures { result ≡ contract_at (contracts b.now) c }
+// The contract with that number, where it is open.
+pub fn contract(b: &[u8; LEDGER_LENGTH], c: usize) -> Option<Contract>
+    requires { c < contract_count }
+    ensures { result ≡ contracts b.now c }
 {
-    let at = FIRST_CONTRACT + c * CONTRACT_LENGTH;
-    codec::contracts::unpack_contract(&b[at..at + CONTRACT_LENGTH])
+    let slot = slot(b, c);
+    if is_open(slot) {
+        Some(unpack_contract(slot))
+    } else {
+        None
+    }
 }
 
-// What the slot of the contract with that number holds.
-pub fn contract_slot(b: &[u8], c: usize) -> ContractSlot
-    requires { (length b.now ≡ ledger_length) × (c < contract_count) }
-    ensures { result ≡ contract_slot_of (contracts b.now c) }
+// The open contract that a call names; refusals 4 and 5.
+#[tactic(auto, unfolding(model::specs::PresentRules::open_tests, model::specs::OpenContracts::is_open, model::specs::OpenContracts::contract_at, model::specs::Ledger::view, layout::specs::Layout::ledger_of))]
+pub fn named_contract(b: &[u8; LEDGER_LENGTH], number: u32) -> Result<Contract, Refusal>
+    ensures refused { refusal_in result ≡ first_of (open_tests (view_of b.now) number) }
+    ensures found { IfOk result (λ k. k ≡ contract_at (contracts b.now) number) }
 {
-    if is_open(b, c) {
-        return ContractSlot::Open(contract_at(b, c));
-    }
-    ContractSlot::Closed
-}
-
-// Refusals 4 and 5 of a call that names an open contract; 0 where neither fits.
-pub fn refused_contract(b: &[u8], contract: u32) -> u32
-    requires { length b.now ≡ ledger_length }
-    ensures { result ≡ first_of (open_tests (view_of b.now) contract) }
-{
-    let c = contract as usize;
-    if CONTRACT_COUNT <= c {
-        return 4;
-    }
-    if !is_open(b, c) {
-        return 5;
-    }
-    0
+    let c = number as usize;
+    refuse_if(CONTRACT_COUNT <= c, Refusal::BadContractNumber)?;
+    contract(b, c).ok_or(Refusal::ContractState)
 }

@@ -1,12 +1,7 @@
--- `row_ok` is the test of a row under its contract, by what its tests find.
-use Rattle.ledger.proofs.RowTests.{outside, rateable, part-tested}
+-- `row_ok` is the test of a row under its contract: its amount is asked for where its bill keeps the ranges.
+use mathlib.Core.Path.{sym, ◌∙◌}
+use Rattle.ledger.proofs.RowTests.{rateable}
 use Rattle.ledger.proofs.check.row_ok.Goals as goal
 
-pub returns-then-not-bill_ok : goal.returns-then-not-bill_ok
-returns-then-not-bill_ok c = search outside
-
 pub is_amount-requires : goal.is_amount-requires
-is_amount-requires c = search rateable
-
-pub returns : goal.returns
-returns c = search part-tested
+is_amount-requires c = rateable c.args.row _ (sym c.bill_ok.ensures ∙ c.if-bill_ok.true)
