@@ -12,16 +12,17 @@ use word::{extract, insert, load, load_eight, store, store_eight};
 
 // A type of numbers that a field can be read as.
 pub trait Number {
-    // The widest field whose numbers are all of this type, of those that can be read.
+    // How many bits the widest field has that can be read as this type.
     ghost widest: { ℕ };
 
-    // The natural number that a value is.
+    // The number that a value is.
     ghost value: { Self → ℕ };
 
     fn of_word(word: u64) -> Self
         requires { word < 2 ^ widest }
         ensures { value result ≡ word };
 
+    // Eight bytes hold such a field at any offset.
     ghost readable: { widest ≤ 57 };
 }
 

@@ -19,7 +19,7 @@ pub(crate) fn insert(x: u64, below: usize, w: usize, v: u64) -> u64
     (x & !(mask << below)) | (v << below)
 }
 
-// The bytes of s.
+// The word that the bytes of s make up.
 pub(crate) fn load(s: &[u8]) -> u64
     requires { length s.now ≤ 8 }
     ensures { result ≡ value (bits s.now) }
@@ -27,7 +27,7 @@ pub(crate) fn load(s: &[u8]) -> u64
     s.iter().fold(0, |x, b| (x << 8) | u64::from(*b))
 }
 
-// The same of eight bytes: of this form LLVM makes one load.
+// The same of eight bytes: of this form LLVM makes one load, and of `load` one of each byte where a field's place is known beforehand.
 pub(crate) fn load_eight(s: &[u8]) -> u64
     requires { length s.now ≡ 8 }
     ensures { result ≡ value (bits s.now) }
@@ -44,7 +44,7 @@ pub(crate) fn store(s: &mut [u8], x: u64)
     s.copy_from_slice(&x.to_be_bytes()[8 - n..]);
 }
 
-// The same of eight bytes: of this form LLVM makes one store, also where some bits of x are known beforehand.
+// The same of eight bytes: of this form LLVM makes one store, and of `store` several where some bits of x are known beforehand.
 pub(crate) fn store_eight(s: &mut [u8], x: u64)
     requires { length s.old ≡ 8 }
     ensures { s.new ≡ bytes_of_bits (length s.old) (bits_of (8 * length s.old) x) }

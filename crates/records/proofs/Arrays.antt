@@ -3,10 +3,11 @@
 use Rattle.std.specs.Prelude.{Option, None, Some}
 use mathlib.Core.Path.{◌≡◌, refl, sym, ap, ap₂, ◌∙◌}
 use mathlib.Core.List.{List, [], ◌∷◌, ◌++◌, map, append_assoc, append-nil}
-use Prim.Native.Nat.{ℕ, zero, suc, ◌+◌, ◌-◌, ◌*◌, ◌<◌, ◌≤◌}
+use Prim.Native.Nat.{ℕ, suc, ◌+◌, ◌-◌, ◌*◌, ◌<◌, ◌≤◌}
 use native.Mathlib.Omega.{arith}
 use lib.ListN.{length, take, drop, get_or, set, replicate, length-append, length-drop, length-map, take-append-drop}
 use lib.Seq.{length-take-le, take_at, drop_at, drop-drop, set_split, split_at}
+use Rattle.std.proofs.lemmas.List.{take-map, drop-map, map-append, nil_from_length}
 use Rattle.records.specs.Pack.{size, WholeBytes}
 use Rattle.records.specs.Slots.{RecordLayout, whole, slot_out, slot_bytes, array_out}
 use Rattle.records.specs.Places.{places, inserted, removed}
@@ -67,11 +68,7 @@ module _ {A : Type 0} (k : RecordLayout A) where
       ∙ ap (λ (b : List ℕ). array_out k os ++ b) (append-nil (slot_bytes k o))
     where
       none_out : array_out k [] ≡ []
-      none_out = go (array_out k []) (length-array_out k [])
-        where
-          go : (b : List ℕ) → length b ≡ 0 * size (whole k) → b ≡ []
-          go [] e = refl
-          go (x ∷ b) e = let z : ⊥ = omega arith in absurd z
+      none_out = nil_from_length (array_out k []) (omega (arith, length-array_out k []))
 
   length-take-array : (os : List (Option A)) (i : ℕ) → i ≤ length os → length (array_out k (take i os)) ≡ i * size (whole k)
   length-take-array os i h = length-array_out k (take i os) ∙ ap (λ (n : ℕ). n * size (whole k)) (length-take-le i os h)
@@ -127,20 +124,6 @@ module _ {A : Type 0} (k : RecordLayout A) where
 
 -- ---- records that come first in their array, with h before the array and r after it
 
-map-take : {A B : Type 0} (f : A → B) (i : ℕ) (xs : List A) → take i (map f xs) ≡ map f (take i xs)
-map-take f zero xs = refl
-map-take f (suc i) [] = refl
-map-take {A} {B} f (suc i) (x ∷ xs) = ap (λ (l : List B). f x ∷ l) (map-take f i xs)
-
-map-drop : {A B : Type 0} (f : A → B) (i : ℕ) (xs : List A) → drop i (map f xs) ≡ map f (drop i xs)
-map-drop f zero xs = refl
-map-drop f (suc i) [] = refl
-map-drop f (suc i) (x ∷ xs) = map-drop f i xs
-
-map-append : {A B : Type 0} (f : A → B) (xs ys : List A) → map f (xs ++ ys) ≡ map f xs ++ map f ys
-map-append f [] ys = refl
-map-append {A} {B} f (x ∷ xs) ys = ap (λ (l : List B). f x ∷ l) (map-append f xs ys)
-
 module _ {A : Type 0} (k : RecordLayout A) (e : WholeBytes (whole k)) (h r : List ℕ) (n from : ℕ) (hh : length h ≡ from) where
   -- the bytes up to the slots of xs, those of m slots, and the rest
   places-parts : (os : List (Option A)) (xs : List A) (m : ℕ) → os ++ replicate m None ≡ places n xs
@@ -170,7 +153,7 @@ module _ {A : Type 0} (k : RecordLayout A) (e : WholeBytes (whole k)) (h r : Lis
       ap (λ (j : ℕ). map Some (inserted i x xs) ++ replicate (n - j) None) (sym many) in
       let count : length os ≡ suc (length xs) = length-append (map Some xs) (None ∷ []) ∙ omega (arith, length-map xs Some) in
       let slots : inserted i (Some x) (map Some xs) ≡ map Some (inserted i x xs) =
-      ap₂ (λ (p q : List (Option A)). p ++ (Some x ∷ q)) (map-take Some i xs) (map-drop Some i xs) ∙ sym (map-append Some (take i xs) (x ∷ drop i xs)) in
+      ap₂ (λ (p q : List (Option A)). p ++ (Some x ∷ q)) (take-map Some i xs) (drop-map Some i xs) ∙ sym (map-append Some (take i xs) (x ∷ drop i xs)) in
       let f : List ℕ → List ℕ = insert_at (i * size (whole k)) (slot_bytes k (Some x)) in
       ap (on_part from (from + suc (length xs) * size (whole k)) f) (places-parts os xs free old)
       ∙ part-pieces h (array_out k os) (array_out k (replicate free None) ++ r) f from (from + suc (length xs) * size (whole k)) hh (ends os (suc (length xs)) count)
@@ -193,7 +176,7 @@ module _ {A : Type 0} (k : RecordLayout A) (e : WholeBytes (whole k)) (h r : Lis
       append_assoc (map Some (removed i xs)) (None ∷ []) (replicate free None)
       ∙ ap (λ (j : ℕ). map Some (removed i xs) ++ replicate j None) (one ∙ ap (λ (j : ℕ). n - j) (sym many)) in
       let slots : removed i os ≡ map Some (removed i xs) =
-      ap₂ (λ (p q : List (Option A)). p ++ q) (map-take Some i xs) (map-drop Some (suc i) xs) ∙ sym (map-append Some (take i xs) (drop (suc i) xs)) in
+      ap₂ (λ (p q : List (Option A)). p ++ q) (take-map Some i xs) (drop-map Some (suc i) xs) ∙ sym (map-append Some (take i xs) (drop (suc i) xs)) in
       let f : List ℕ → List ℕ = remove_at (i * size (whole k)) (size (whole k)) in
       ap (on_part from (from + length xs * size (whole k)) f) (places-parts os xs free refl)
       ∙ part-pieces h (array_out k os) (array_out k (replicate free None) ++ r) f from (from + length xs * size (whole k)) hh (ends os (length xs) (length-map xs Some))

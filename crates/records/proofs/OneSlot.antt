@@ -9,6 +9,7 @@ use native.Mathlib.Numerals.{add-one}
 use lib.Dec.{eqb}
 use lib.ListN.{length, take, drop, get_or}
 use lib.Seq.{drop-cons, drop-drop, take-add}
+use Rattle.std.proofs.Math.Bool.{and_assoc}
 use Rattle.basics.specs.Tests.{every}
 use Rattle.fields.specs.Field.{AreBytes}
 use Rattle.records.specs.Pack.{size, WholeBytes, unpack, cut}
@@ -36,10 +37,6 @@ zero_at-add b f m n = ap (λ (x : List ℕ). all_zero x) (take-add m n (drop f b
     all_append : (x y : List ℕ) → all_zero (x ++ y) ≡ all_zero x && all_zero y
     all_append [] y = refl
     all_append (a ∷ x) y = ap (λ (p : Bool). eqb a 0 && p) (all_append x y) ∙ sym (and_assoc (eqb a 0) (all_zero x) (all_zero y))
-      where
-        and_assoc : (p q r : Bool) → (p && q) && r ≡ p && (q && r)
-        and_assoc true q r = refl
-        and_assoc false q r = refl
 
 module _ {A : Type 0} (k : RecordLayout A) (e : WholeBytes (whole k)) where
   zero-slots : (m f : ℕ) (b : List ℕ) → AreBytes b → f + m * size (whole k) ≤ length b → zero_at f (m * size (whole k)) b ≡ every (map all_zero (slots k m (drop f b)))

@@ -4,7 +4,7 @@ use Rattle.std.specs.Prelude.{Option, None, Some}
 use mathlib.Core.Path.{◌≡◌, refl, sym, ap₂, ◌∙◌}
 use mathlib.Core.Bool.{Bool, true, false, cond, ◌&&◌, false≢true, true≢false}
 use mathlib.Core.List.{List, [], ◌∷◌, map}
-use Prim.Native.Nat.{ℕ, zero, suc, ◌+◌}
+use Prim.Native.Nat.{ℕ, suc, ◌+◌}
 use native.Mathlib.Omega.{arith}
 use lib.Dec.{eqb}
 use lib.ListN.{length, drop, get_or}
@@ -15,6 +15,7 @@ use Rattle.basics.proofs.Lists.{all_map, all_both}
 use Rattle.records.specs.Slots.{RecordLayout, all_zero, record_fields, slot_in, slot_ok}
 use Rattle.records.specs.Places.{held, is_in_order}
 use Rattle.records.specs.Pairs.{every_pair}
+use Rattle.records.proofs.Slots.{drop-zero}
 
 -- the record of a slot's numbers
 abbrev pub record_of : {A : Type 0} → RecordLayout A → List ℕ → A
@@ -31,11 +32,6 @@ pub bool_same : (a b : Bool) → (a ≡ true → b ≡ true) → (b ≡ true →
 bool_same true b f g = sym (f refl)
 bool_same false true f g = g refl
 bool_same false false f g = refl
-
-zero-drop : (n : ℕ) (v : List ℕ) → all_zero v ≡ true → all_zero (drop n v) ≡ true
-zero-drop zero v e = e
-zero-drop (suc n) [] e = refl
-zero-drop (suc n) (x ∷ v) e = zero-drop n v (and_right (eqb x 0) _ e)
 
 -- zeros alone are a free slot
 zero-free : (v : List ℕ) → all_zero v ≡ true → eqb (get_or v 0 0) 0 ≡ true
@@ -77,7 +73,7 @@ module _ {A : Type 0} (k : RecordLayout A) (ok : A → Bool) where
 
   free-test : (v : List ℕ) → eqb (get_or v 0 0) 0 ≡ true → test v ≡ all_zero v
   unfolding slot_ok
-  free-test v e = rw e (go (all_zero v) (all_zero (drop (suc (length k.widths)) v)) (zero-drop (suc (length k.widths)) v))
+  free-test v e = rw e (go (all_zero v) (all_zero (drop (suc (length k.widths)) v)) (drop-zero (suc (length k.widths)) v))
     where
       go : (p q : Bool) → (p ≡ true → q ≡ true) → q && p ≡ p
       go true q f = rw (f refl)

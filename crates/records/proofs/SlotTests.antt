@@ -1,12 +1,13 @@
 -- The test of a slot: by its padding, its first bit, and its fields. Assumes nothing.
 use mathlib.Core.Path.{◌≡◌, refl, sym, ◌∙◌}
-use mathlib.Core.Bool.{Bool, true, false, not, ◌&&◌}
+use mathlib.Core.Bool.{Bool, true, false, not}
 use mathlib.Core.List.{List, [], ◌∷◌}
 use Prim.Native.Nat.{ℕ, suc}
 use native.Mathlib.Omega.{arith}
 use lib.Dec.{eqb}
 use lib.ListN.{length, drop, get_or}
 use borrow.Author.Tests.{not-true, not-false}
+use Rattle.std.proofs.Math.Bool.{and-true}
 use Rattle.fields.specs.Field.{AreBytes}
 use Rattle.records.specs.Pack.{size, unpack}
 use Rattle.records.specs.Slots.{RecordLayout, whole, record_fields, all_zero, slot_ok}
@@ -17,11 +18,7 @@ use Rattle.records.specs.Widths.{WidthsOk}
 
 -- the zeros of a slot with one number for them
 pub zeros-set : (x r : ℕ) → r ≡ x → not (eqb r 0) ≡ not (all_zero (x ∷ []))
-zeros-set x r e = rw e (go (eqb x 0))
-  where
-    go : (b : Bool) → not b ≡ not (b && true)
-    go true = refl
-    go false = refl
+zeros-set x r e = rw (e, and-true) refl
 
 module _ {A : Type 0} (k : RecordLayout A) (s : List ℕ) where
   abbrev v : List ℕ

@@ -10,6 +10,7 @@ use lib.Dec.{eqb}
 use lib.Pow.{pow_pos}
 use lib.ListN.{length, take, drop, get_or, length-append, length-map, take-append-drop}
 use lib.Seq.{length-take-le, take_at, drop_at, drop-drop}
+use Rattle.std.proofs.lemmas.List.{map-append, get_or-map}
 use Rattle.fields.specs.Field.{AreBytes}
 use Rattle.fields.specs.Fields.{fields, Fit}
 use Rattle.basics.specs.Tests.{every}
@@ -48,7 +49,7 @@ pub blank-zero : (ws : List ℕ) → all_zero (zeros_for ws) ≡ true
 blank-zero [] = refl
 blank-zero (w ∷ ws) = blank-zero ws
 
-drop-zero : (n : ℕ) (v : List ℕ) → all_zero v ≡ true → all_zero (drop n v) ≡ true
+pub drop-zero : (n : ℕ) (v : List ℕ) → all_zero v ≡ true → all_zero (drop n v) ≡ true
 drop-zero zero v e = e
 drop-zero (suc n) [] e = refl
 drop-zero (suc n) (x ∷ v) e = drop-zero n v (and_right (eqb x 0) _ e)
@@ -150,11 +151,7 @@ module _ {A : Type 0} (k : RecordLayout A) where
 
   pub array-append : (os ps : List (Option A)) → array_out k (os ++ ps) ≡ array_out k os ++ array_out k ps
   unfolding array_out
-  array-append os ps = ap join (go os) ∙ join-append (map (slot_bytes k) os) (map (slot_bytes k) ps)
-    where
-      go : (xs : List (Option A)) → map (slot_bytes k) (xs ++ ps) ≡ map (slot_bytes k) xs ++ map (slot_bytes k) ps
-      go [] = refl
-      go (x ∷ xs) = ap (λ (l : List (List ℕ)). slot_bytes k x ∷ l) (go xs)
+  array-append os ps = ap join (map-append (slot_bytes k) os ps) ∙ join-append (map (slot_bytes k) os) (map (slot_bytes k) ps)
 
   pub array-cons : (o : Option A) (os : List (Option A)) → array_out k (o ∷ os) ≡ slot_bytes k o ++ array_out k os
   unfolding array_out join
@@ -249,9 +246,5 @@ module _ {A : Type 0} (k : RecordLayout A) (e : WholeBytes (whole k)) where
   pub held_at : (n i f : ℕ) (b : List ℕ) → i < n → f + n * size (whole k) ≤ length b
       → get_or (array_in k n (drop f b)) i None ≡ slot_in k (fields b (8 * (f + i * size (whole k))) (whole k))
   unfolding array_in
-  held_at n i f b h l = go (slots k n (drop f b)) i (omega (arith, length-slots k n (drop f b))) ∙ ap (slot_in k) (slot-at n i f b h l)
-    where
-      go : (vs : List (List ℕ)) (j : ℕ) → j < length vs → get_or (map (slot_in k) vs) j None ≡ slot_in k (get_or vs j [])
-      go [] j m = absurd (not-suc-le-zero m)
-      go (v ∷ vs) zero m = refl
-      go (v ∷ vs) (suc j) m = go vs j (le_of_suc-le-suc m)
+  held_at n i f b h l =
+      get_or-map (slot_in k) (slots k n (drop f b)) i [] None (omega (arith, length-slots k n (drop f b))) ∙ ap (slot_in k) (slot-at n i f b h l)

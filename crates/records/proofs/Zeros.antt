@@ -1,7 +1,7 @@
 -- A record of zeros, a free slot and free slots are zero bytes. Assumes nothing.
 use Rattle.std.specs.Prelude.{None}
 use mathlib.Core.Path.{◌≡◌, refl, sym, ap, ap₂, ◌∙◌}
-use mathlib.Core.Bool.{Bool, true, false, false≢true}
+use mathlib.Core.Bool.{Bool, true, false}
 use mathlib.Core.List.{List, [], ◌∷◌, ◌++◌}
 use Prim.Native.Nat.{ℕ, zero, suc, ◌+◌, ◌*◌, ◌%◌, ◌^◌, ◌≤◌}
 use native.Mathlib.Omega.{arith}
@@ -12,12 +12,13 @@ use lib.Seq.{length-take-le, take_at, drop_at}
 use Rattle.fields.specs.Field.{value, bits_of, bytes_of_bits, AreBytes}
 use Rattle.fields.specs.Fields.{sum, fields, field_bits}
 use Rattle.fields.proofs.Laws.{are-take, are-drop}
-use Rattle.basics.proofs.Tests.{either, and_left, and_right, eq_yes}
+use Rattle.basics.proofs.Tests.{and_left, and_right, eq_yes}
 use Rattle.records.specs.Pack.{size, WholeBytes, pack, unpack, join}
 use Rattle.records.specs.Slots.{all_zero, zeros_for, RecordLayout, whole, slot_out, slot_bytes, array_out}
 use Rattle.records.specs.Edits.{zero_at}
 use Rattle.records.proofs.Pack.{fit-unpack, unpack-pack, pack-unpack, unpack-within}
 use Rattle.records.proofs.Slots.{fit-blank, blank-zero, zero-blank}
+use Rattle.records.proofs.Scan.{bool_same}
 
 bits_of-zero : (w : ℕ) → bits_of w 0 ≡ replicate w false
 unfolding bits_of
@@ -71,12 +72,8 @@ zeros-zero : (n : ℕ) → all_zero (replicate n 0) ≡ true
 zeros-zero zero = refl
 zeros-zero (suc n) = zeros-zero n
 
-same_test : (a b : Bool) → (a ≡ true → b ≡ true) → (b ≡ true → a ≡ true) → a ≡ b
-same_test true b f g = sym (f refl)
-same_test false b f g = either b (λ e. absurd (false≢true (g e))) (λ e. sym e)
-
 unpack-zero : (ws b : List ℕ) → WholeBytes ws → AreBytes b → length b ≡ size ws → all_zero b ≡ all_zero (unpack ws b)
-unpack-zero ws b e h l = same_test (all_zero b) (all_zero (unpack ws b)) to from
+unpack-zero ws b e h l = bool_same (all_zero b) (all_zero (unpack ws b)) to from
   where
     to : all_zero b ≡ true → all_zero (unpack ws b) ≡ true
     to z =
