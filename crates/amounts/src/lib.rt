@@ -141,11 +141,12 @@ impl RateableBill {
         if kwh == 0 {
             return 0;
         }
-        u64::from(kwh)
-            * self
-                .contract
-                .fuel
-                .class_rate(class, self.bill.reference, self.bill.supply)
+        let bill = self.bill;
+        let rate = self
+            .contract
+            .fuel
+            .class_rate(class, bill.reference, bill.supply);
+        u64::from(kwh) * rate
     }
 
     // The amount, of which the kWh in each class are known: each at the rate of its class.
