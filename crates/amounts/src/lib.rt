@@ -142,11 +142,8 @@ impl RateableBill {
             return 0;
         }
         let bill = self.bill;
-        let rate = self
-            .contract
-            .fuel
-            .class_rate(class, bill.reference, bill.supply);
-        u64::from(kwh) * rate
+        let fuel = self.contract.fuel;
+        u64::from(kwh) * fuel.class_rate(class, bill.reference, bill.supply)
     }
 
     // The amount, of which the kWh in each class are known: each at the rate of its class.
