@@ -195,8 +195,8 @@ pub fn whole_amount(contract: Contract, bill: Bill) -> u64
     rateable.at_rates(rateable.whole_by_class())
 }
 
-// Whether a bill's amount is the one given. The check asks it of every row and is its one caller, too. Each branch compares: one comparison
-// after both took 109 instructions a row where this takes 100.
+// Whether a bill's amount is the one given. The check asks it of every row and is its one caller, too. Each branch compares: with one
+// comparison after both, a total of 1,024 rows has 177,000 instructions in place of 173,500.
 pub fn is_amount(contract: Contract, bill: Bill, given: u64) -> bool
     requires { Rateable bill }
     ensures { result ≡ eqb given (by_terms amount contract bill) }
