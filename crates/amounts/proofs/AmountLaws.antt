@@ -10,10 +10,10 @@ use Rattle.rates.specs.declared.Certificate.{Certificate}
 use Rattle.rates.specs.declared.Terms.{Terms}
 use Rattle.rates.specs.declared.Class.{Class}
 use Rattle.rates.specs.declared.Class.TheVariants.{Baseline, Etii}
-use Rattle.rates.specs.Rates.{class_rate, qhs_class, certified_class, class_of}
+use Rattle.rates.specs.Rates.{qhs_class, certified_class, class_of}
 use Rattle.amounts.specs.declared.Bill.{Bill}
 use Rattle.amounts.specs.Days.{sum_by_day}
-use Rattle.amounts.specs.Amounts.{days_of, shares, share_at, bill_at, rate_of, cap_of, amount, cap, rate}
+use Rattle.amounts.specs.Amounts.{days_of, shares, share_at, bill_at, rate_of, cap_of, amount, cap}
 use Rattle.amounts.specs.Stretches.{change_days}
 use Rattle.amounts.specs.EarlierAmount.{earlier_amount}
 use Rattle.amounts.specs.AmountLaws.{bill_by_stretches, NoChangeInside, SharesRated, StretchesRated, WithoutChangeInside, AmountsBounded}

@@ -1,8 +1,9 @@
 -- kWh spread over days: their ends, their differences and their sums. Assumes nothing.
 use mathlib.Core.Path.{◌≡◌, refl, ap, ap₂, ◌∙◌}
 use Prim.Native.Nat.{ℕ, zero, suc, ◌+◌, ◌-◌, ◌*◌, ◌/◌, ◌≤◌, ◌<◌, zero-le}
-use native.Mathlib.Nat.{mul-le-mul_left, mul-zero, zero-mul, zero-div, div-zero, div-mul-le_self, le-div_iff_mul-le, mul-div_cancel}
+use native.Mathlib.Nat.{mul-le-mul_left, mul-zero, zero-mul, zero-div, div-zero, div-mul-le_self, mul-div_cancel}
 use native.Mathlib.Omega.{arith}
+use Rattle.std.proofs.lemmas.Nat.{le-div}
 use Rattle.rates.specs.declared.Class.{Class}
 use Rattle.amounts.specs.Days.{in_first, between, sum_over, sum_by_day}
 use Rattle.amounts.specs.Stretches.{days_before}
@@ -19,10 +20,7 @@ in-first-all k n h = mul-div_cancel k h
 pub in-first-grows : (k n i j : ℕ) → i ≤ j → in_first k n i ≤ in_first k n j
 unfolding in_first
 in-first-grows k zero i j h = omega (arith, div-zero (k * i), div-zero (k * j))
-in-first-grows k (suc n) i j h =
-    let m : k * i / suc n * suc n ≤ k * j = omega (arith, div-mul-le_self (k * i) (suc n), mul-le-mul_left k h) in
-    let z : 0 < suc n = omega arith in
-    (le-div_iff_mul-le z).1 m
+in-first-grows k (suc n) i j h = le-div _ (k * j) (suc n) (omega arith) (omega (arith, div-mul-le_self (k * i) (suc n), mul-le-mul_left k h))
 
 in-first-most : (k n j : ℕ) → 0 < n → j ≤ n → in_first k n j ≤ k
 in-first-most k n j h l = omega (arith, in-first-grows k n j n l, in-first-all k n h)

@@ -1,7 +1,7 @@
 -- A bill's kWh in each class, by its shares and certificate: what the code finds comes to the sum over stretches, and so over days. Assumes
 -- nothing.
 use mathlib.Core.Path.{◌≡◌, sym, ap, ◌∙◌}
-use mathlib.Core.Bool.{Bool, true, false}
+use mathlib.Core.Bool.{true, false}
 use Prim.Native.Nat.{ℕ, ◌+◌, ◌-◌, ◌*◌, ◌≤◌, ◌<◌, max}
 use native.Mathlib.Omega.{arith}
 use Rattle.limits.specs.Limits.{new_minimum_day}
@@ -33,25 +33,12 @@ new-most kind bill k day days = either (entered_early kind)
       before-grows k (days_of bill) bill.first day (max day new_minimum_day) (omega arith),
     )))
 
--- what `with_new_minimum` answers
-pub ends-before-new-minimum : (kind : Kind) (bill : Bill) (k day : ℕ) → bill.first ≤ bill.last → bill.last < new_minimum_day
-    → (0 ≡ with_new_minimum kind bill k day) × (kwh_before bill k day + 0 ≤ k)
-ends-before-new-minimum kind bill k day days before = (
-  either (entered_early kind) (λ t. rw t) (λ t. rw t (omega (arith, after_last k bill.first bill.last (max day new_minimum_day) days (omega arith)))),
-  omega (arith, before-most k (days_of bill) bill.first day (omega arith)),
-)
+-- there are none where the bill ends before the day of the new minimum
+pub ends-before-new-minimum : (kind : Kind) (bill : Bill) (k day : ℕ) → bill.first ≤ bill.last → bill.last < new_minimum_day → with_new_minimum kind bill k day ≡ 0
+ends-before-new-minimum kind bill k day days before =
+    either (entered_early kind) (λ t. rw t) (λ t. rw t (omega (arith, after_last k bill.first bill.last (max day new_minimum_day) days (omega arith))))
 
-module _ (kind : Kind) (bill : Bill) (k day : ℕ) (days : bill.first ≤ bill.last) (early : Bool) (is : early ≡ entered_early kind) where
-  pub entered-early-none : early ≡ true → (0 ≡ with_new_minimum kind bill k day) × (kwh_before bill k day + 0 ≤ k)
-  entered-early-none t = let none : 0 ≡ with_new_minimum kind bill k day = rw (sym is ∙ t) in (none, omega (arith, new-most kind bill k day days))
-
-  pub from-new-minimum : early ≡ false → (from before : ℕ) → from ≡ max day new_minimum_day → before ≡ kwh_before bill k from
-      → (k - before ≡ with_new_minimum kind bill k day) × (kwh_before bill k day + (k - before) ≤ k)
-  from-new-minimum f from before e is-before =
-      let new : k - before ≡ with_new_minimum kind bill k day = rw (sym is ∙ f, is-before, e) in
-      (new, omega (arith, new-most kind bill k day days))
-
-pub ruleset new_minimum = (ends-before-new-minimum, entered-early-none, from-new-minimum, before-most, before-grows)
+pub ruleset new_minimum = (ends-before-new-minimum, before-most, before-grows)
 
 -- ---- a share by the stretches of its certificate
 

@@ -1,6 +1,6 @@
 -- What the code finds of a bill, its kWh in each class: the contracts of its inner functions cite these. Assumes nothing.
-use Rattle.std.specs.Prelude.{◌≡◌, cond, ℕ, ◌+◌, ◌-◌, ◌*◌, ◌≤◌, max}
-use Rattle.limits.specs.Limits.{new_minimum_day, most_kwh_stored}
+use Rattle.std.specs.Prelude.{◌≡◌, cond, ℕ, ◌+◌, ◌-◌, ◌*◌, max}
+use Rattle.limits.specs.Limits.{new_minimum_day}
 use Rattle.rates.specs.declared.Kind.{Kind}
 use Rattle.rates.specs.declared.Terms.{Terms}
 use Rattle.rates.specs.declared.Class.{Class}
@@ -11,11 +11,6 @@ use Rattle.amounts.specs.declared.KwhByClass.{KwhByClass}
 use Rattle.amounts.specs.Days.{in_first}
 use Rattle.amounts.specs.Amounts.{days_of, bill_at}
 use Rattle.amounts.specs.Stretches.{days_before}
-
--- kWh that a bill may have, and days to spread them over
-pub record Spreadable (bill : Bill) (k : ℕ) : Type 0 where
-  pub days : bill.first ≤ bill.last
-  pub kwh : k ≤ most_kwh_stored
 
 -- of k kWh spread over a bill's days, those before a day of the calendar
 abbrev pub kwh_before : Bill → (k day : ℕ) → ℕ

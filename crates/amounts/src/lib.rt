@@ -132,17 +132,6 @@ impl RateableBill {
         }
     }
 
-    // The kWh in each class.
-    fn kwh_by_class(self) -> KwhByClass
-        ensures { KwhOf (terms_for self.contract self.bill.first) self.bill result }
-    {
-        if self.bill.has_shares() {
-            self.shares_by_class()
-        } else {
-            self.whole_by_class()
-        }
-    }
-
     // So many kWh at the rate of a class, which is worked out only where there are kWh.
     #[tactic(auto, using(crate::proofs::AmountBounds::kwh_rated), unfolding(rates::specs::TermsTaken::terms_for))]
     fn at_rate(self, class: Class, kwh: u32) -> u64
@@ -152,7 +141,9 @@ impl RateableBill {
         if kwh == 0 {
             return 0;
         }
-        u64::from(kwh) * self.contract.fuel.class_rate(class, self.bill.reference, self.bill.supply)
+        let bill = self.bill;
+        let fuel = self.contract.fuel;
+        u64::from(kwh) * fuel.class_rate(class, bill.reference, bill.supply)
     }
 
     // The amount, of which the kWh in each class are known: each at the rate of its class.
@@ -164,14 +155,6 @@ impl RateableBill {
             + self.at_rate(Class::Etii, kwh.etii)
             + self.at_rate(Class::QhsOld, kwh.old)
             + self.at_rate(Class::QhsNew, kwh.new)
-    }
-
-    // The amount, in ticks.
-    #[inline(always)]
-    fn amount(self) -> u64
-        ensures { result ≡ by_terms amount self.contract self.bill }
-    {
-        self.at_rates(self.kwh_by_class())
     }
 }
 
@@ -193,7 +176,13 @@ pub fn amount(contract: Contract, bill: Bill) -> u64
     requires { Rateable bill }
     ensures { result ≡ by_terms amount contract bill }
 {
-    RateableBill { contract, bill }.amount()
+    let rateable = RateableBill { contract, bill };
+    let kwh = if bill.has_shares() {
+        rateable.shares_by_class()
+    } else {
+        rateable.whole_by_class()
+    };
+    rateable.at_rates(kwh)
 }
 
 // The amount of a bill without shares. A certificate asks it of such rows of its contract and is its one caller: LLVM inlines a function
@@ -206,10 +195,16 @@ pub fn whole_amount(contract: Contract, bill: Bill) -> u64
     rateable.at_rates(rateable.whole_by_class())
 }
 
-// Whether a bill's amount is the one given. The check asks it of every row and is its one caller, too.
+// Whether a bill's amount is the one given. The check asks it of every row and is its one caller, too. Each branch compares: with one
+// comparison after both, a total of 1,024 rows has 177,000 instructions in place of 173,500.
 pub fn is_amount(contract: Contract, bill: Bill, given: u64) -> bool
     requires { Rateable bill }
     ensures { result ≡ eqb given (by_terms amount contract bill) }
 {
-    given == RateableBill { contract, bill }.amount()
+    let rateable = RateableBill { contract, bill };
+    if bill.has_shares() {
+        given == rateable.at_rates(rateable.shares_by_class())
+    } else {
+        given == rateable.at_rates(rateable.whole_by_class())
+    }
 }
