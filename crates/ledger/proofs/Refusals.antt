@@ -3,13 +3,14 @@ use Rattle.std.specs.Prelude.{Ok, Err}
 use mathlib.Core.Path.{◌≡◌, sym, ap, ◌∙◌}
 use mathlib.Core.Bool.{Bool, true, false, not, cond}
 use mathlib.Core.List.{List, ◌++◌}
-use Prim.Native.Nat.{ℕ, ◌<◌}
-use lib.Dec.{T}
-use Rattle.basics.proofs.Tests.{le-no, not-no}
+use Prim.Native.Nat.{ℕ, ◌<◌, ◌≤◌}
+use native.Mathlib.Omega.{arith}
+use lib.Dec.{T, leb}
+use Rattle.basics.proofs.Tests.{le-no, le_yes, not-no, yes-T}
 use Rattle.limits.specs.Limits.{contract_count}
 use Rattle.refusals.specs.declared.Refusal.{Refusal}
 use Rattle.refusals.specs.Numbers.{number_of}
-use Rattle.refusals.proofs.SomeNumber.{some-number}
+use Rattle.refusals.proofs.SomeNumber.{some_number}
 use Rattle.model.specs.declared.Answer.{Answer}
 use Rattle.model.specs.OpenContracts.{is_open}
 use Rattle.model.specs.Calls.{CallWithBook, View, Test, first_of}
@@ -17,7 +18,6 @@ use Rattle.model.specs.Rules.{refusal}
 use Rattle.model.specs.Ledger.{view, accept}
 use Rattle.model.specs.PresentRules.{open_tests}
 use Rattle.model.proofs.Refusals.{fits_at, numbered, clear, refused-first, refused-later}
-use Rattle.basics.proofs.TestChains.{tests, was-true, was-false}
 use Rattle.layout.specs.Layout.{ledger_of}
 use Rattle.layout.specs.declared.Totals.{Totals}
 use Rattle.layout.specs.Present.{rules, facts, bytes, Formed, contracts, checked_of, Searched}
@@ -25,42 +25,47 @@ use Rattle.layout.proofs.Present.{present}
 use Rattle.layout.proofs.Machine.{malformed-refused, machine-refused, machine-accepted, check_sound, searched}
 use Rattle.ledger.specs.Answered.{view_of, Summed, Answered}
 
--- ---- a list of tests
+-- ---- a list of tests, of which each was tried in turn: r is what was found of the test t
 
--- the first test fits; it doesn't, and those after it decide
-pub fits : (t : Bool) (n rest : ℕ) → t ≡ true → n ≡ cond t n rest
-fits t n rest e = rw e
+module _ (r t : Bool) (n m rest : ℕ) where
+  -- it fits, and its number is given
+  pub fits : 1 ≤ m → m ≡ cond r n 0 → r ≡ t → m ≡ cond t n rest
+  fits some e f = rw (← f) (go r e)
+    where
+      go : (r : Bool) → m ≡ cond r n 0 → m ≡ cond r n rest
+      go true h = h
+      go false h = let z : ⊥ = omega arith in absurd z
 
-pub passes : (t : Bool) (m n rest : ℕ) → t ≡ false → m ≡ rest → m ≡ cond t n rest
-passes t m n rest e f = rw e f
+  -- it doesn't, and those after it decide
+  pub passes : T (leb 1 n) → 0 ≡ cond r n 0 → r ≡ t → m ≡ rest → m ≡ cond t n rest
+  passes some e f g = rw (← f) (go r e)
+    where
+      low : 1 ≤ n
+      low = le_yes 1 n (yes-T _ some)
 
--- a test that is the negation of one that was made
-module _ (a r : Bool) where
-  pub not-true : r ≡ a → not r ≡ true → not a ≡ true
-  not-true e f = ap not (sym e) ∙ f
-
-  pub not-false : r ≡ a → not r ≡ false → not a ≡ false
-  not-false e f = ap not (sym e) ∙ f
-
-pub ruleset refusals = (tests, was-true, was-false, not-true, not-false, fits, passes)
+      go : (r : Bool) → 0 ≡ cond r n 0 → m ≡ cond r n rest
+      go true h = let z : ⊥ = omega (arith, low) in absurd z
+      go false h = g
 
 open-numbered : (v : View) (c : ℕ) → T (numbered (open_tests v c))
 unfolding open_tests
 open-numbered v c = tt
 
 -- a list that begins with 4 and 5
-module _ (v : View) (c n : ℕ) (later : List Test) (first : n ≡ first_of (open_tests v c)) where
-  pub open-refused : (n ≡ 0 → ⊥) → n ≡ first_of (open_tests v c ++ later)
-  open-refused some = refused-first (open_tests v c) later n first some
+module _ (v : View) (c m : ℕ) (later : List Test) where
+  pub open-refused : 1 ≤ m → m ≡ first_of (open_tests v c) → m ≡ first_of (open_tests v c ++ later)
+  open-refused some e = refused-first (open_tests v c) later m e (λ z. omega arith)
 
-  pub open-passed : (m : ℕ) → n ≡ 0 → m ≡ first_of later → m ≡ first_of (open_tests v c ++ later)
-  open-passed m none e = refused-later (open_tests v c) later m (open-numbered v c) (sym none ∙ first) e
+  pub open-passed : 0 ≡ first_of (open_tests v c) → m ≡ first_of later → m ≡ first_of (open_tests v c ++ later)
+  open-passed none e = refused-later (open_tests v c) later m (open-numbered v c) none e
+
+pub ruleset refusals = (some_number, fits, passes, open-refused, open-passed)
 
 -- what passing them says of the contract
-module _ (b : List ℕ) (c n : ℕ) (first : n ≡ first_of (open_tests (view_of b) c)) (none : n ≡ 0) where
+module _ (b : List ℕ) (c : ℕ) (none : 0 ≡ first_of (open_tests (view_of b) c)) where
   passed : (m : ℕ) → fits_at (open_tests (view_of b) c) m ≡ false
   unfolding open_tests
-  passed m = clear (open_tests (view_of b) c) tt (sym first ∙ none) m
+  passed m = clear (open_tests (view_of b) c) tt (sym none) m
 
   pub contract-low : c < contract_count
   unfolding open_tests
@@ -75,7 +80,7 @@ module _ (b : List ℕ) (c n : ℕ) (first : n ≡ first_of (open_tests (view_of
 module _ (b : List ℕ) (call : CallWithBook) where
   pub refused-answered : (r : Refusal) → Formed b → number_of r ≡ refusal rules (view_of b) call → Answered b call (Err r) b
   refused-answered r f e =
-      let m = machine-refused present b call f (number_of r) (some-number r) (sym e) in
+      let m = machine-refused present b call f (number_of r) (some_number r) (sym e) in
       record { answered = sym m.answered; left = sym m.left }
 
   pub accepted-answered : {a : Answer} {after : List ℕ} → Formed b → 0 ≡ refusal rules (view_of b) call

@@ -5,22 +5,22 @@ use Rattle.refusals.specs.declared.Refusal.{Refusal}
 use Rattle.refusals.specs.declared.Refusal.TheVariants.{Unreadable, NotWellFormed, BadBook, BadContractNumber, ContractState, BadCode, BadDay, BadAmount, NoSuchRow, SharedDay, NoPrice, RowsFull, ClaimsSpent, BadShares, TwoMonths, NotAmendable, CrossesEnd, RowAfterEnd}
 use Rattle.refusals.specs.Numbers.{number_of}
 
-pub some-number : (r : Refusal) → 1 ≤ number_of r
-some-number Unreadable = omega arith
-some-number NotWellFormed = omega arith
-some-number BadBook = omega arith
-some-number BadContractNumber = omega arith
-some-number ContractState = omega arith
-some-number BadCode = omega arith
-some-number BadDay = omega arith
-some-number BadAmount = omega arith
-some-number NoSuchRow = omega arith
-some-number SharedDay = omega arith
-some-number NoPrice = omega arith
-some-number RowsFull = omega arith
-some-number ClaimsSpent = omega arith
-some-number BadShares = omega arith
-some-number TwoMonths = omega arith
-some-number NotAmendable = omega arith
-some-number CrossesEnd = omega arith
-some-number RowAfterEnd = omega arith
+pub some_number : (r : Refusal) → 1 ≤ number_of r
+some_number Unreadable = omega arith
+some_number NotWellFormed = omega arith
+some_number BadBook = omega arith
+some_number BadContractNumber = omega arith
+some_number ContractState = omega arith
+some_number BadCode = omega arith
+some_number BadDay = omega arith
+some_number BadAmount = omega arith
+some_number NoSuchRow = omega arith
+some_number SharedDay = omega arith
+some_number NoPrice = omega arith
+some_number RowsFull = omega arith
+some_number ClaimsSpent = omega arith
+some_number BadShares = omega arith
+some_number TwoMonths = omega arith
+some_number NotAmendable = omega arith
+some_number CrossesEnd = omega arith
+some_number RowAfterEnd = omega arith

@@ -3,4 +3,4 @@ use Rattle.bill_refusals.proofs.Requests.{day-shared}
 use Rattle.bill_refusals.proofs.shares_day.Goals as goal
 
 pub returns : goal.returns
-returns c = search day-shared
+returns c = day-shared _ _ c.args.held.searched _ _ _ _ c.first_reaching-place.ensures _ c.shares_day.ensures
