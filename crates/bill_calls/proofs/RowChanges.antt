@@ -24,10 +24,10 @@ use Rattle.model.specs.WellFormed.{RowOk}
 use Rattle.model.proofs.PresentRules.{bill-ranges}
 use Rattle.model.proofs.Places.{place-le, insert-at, remove-at, replace-at, amount-at}
 use Rattle.layout.specs.PresentLayout.{row_record}
-use Rattle.layout.specs.Offsets.{ledger_length, first_row, row_start, row_length}
-use Rattle.layout.specs.Present.{Searched, rules, facts, contracts, bytes, row_at, row_slot_at}
+use Rattle.layout.specs.Offsets.{first_row, row_start, row_length}
+use Rattle.layout.specs.Present.{rules, facts, contracts, bytes, row_at, row_slot_at}
 use Rattle.layout.proofs.PresentLayout.{row_fits}
-use Rattle.layout.proofs.Present.{present, formed-length, repacked}
+use Rattle.layout.proofs.Present.{present, repacked}
 use Rattle.layout.proofs.HeldRows.{rows-most, row-held}
 use Rattle.edits.specs.RowEdits.{Insertable, Replaceable, Removable}
 use Rattle.edits.proofs.PackedChanges.{inserted-row, removed-row, replaced-row}
@@ -57,17 +57,14 @@ module _ (cs : Contracts) (k : Contract) (x : Bill) (ok : RowOk rules cs (priced
     pub new-amount-low : a < 2 ^ 62
     new-amount-low = omega (arith, e, amount-bits (terms_for k x.first) x row-rateable)
 
-searched-length : (b : List ℕ) (rows : ℕ) → Searched b rows → length b ≡ ledger_length
-searched-length b rows s = formed-length b s.formed
-
 -- ---- a row that is added
 
 module _ (b : List ℕ) (rows place : ℕ) (k : Contract) (x : Bill) (new : NewRow b rows place k x) (a : ℕ) (e : a ≡ by_terms amount k x) where
   place_inside : place ≤ rows
   place_inside = omega (arith, new.at, new.searched.count, place-le (comes_after x.contract x.first) (facts b).rows)
 
-  pub insertable : Insertable b rows place (made x a)
-  insertable = record { long = searched-length b rows new.searched; inside = place_inside; room = new.room; fits = made-fits (contracts b) k x new.row a e }
+  pub insertable : Insertable rows place (made x a)
+  insertable = record { inside = place_inside; room = new.room; fits = made-fits (contracts b) k x new.row a e }
 
   pub row-added : (r : ℕ) → r ≡ by_terms rate k x → (after : List ℕ) → after ≡ on_part first_row (row_start (rows + 1)) (insert_at (place * row_length) (record_bytes row_record (made x a))) b
       → Changed (Billed x.reference r a) after (billed k x) (row_added (facts b) k x)
@@ -85,11 +82,11 @@ module _ (b : List ℕ) (rows place c first : ℕ) (h : RowHeld b rows place c f
   inside : place < length (facts b).rows
   inside = omega (arith, h.held, h.searched.count)
 
-  pub held-needs : (length b ≡ ledger_length) × (place < row_count)
-  held-needs = (searched-length b rows h.searched, omega (arith, inside, rows-most present b h.searched.formed))
+  pub held-inside : place < row_count
+  held-inside = omega (arith, inside, rows-most present b h.searched.formed)
 
-  pub removable : Removable b rows place
-  removable = record { long = searched-length b rows h.searched; inside = h.held; count = omega (arith, h.searched.count, rows-most present b h.searched.formed) }
+  pub removable : Removable rows place
+  removable = record { inside = h.held; count = omega (arith, h.searched.count, rows-most present b h.searched.formed) }
 
   module _ (old : Row) (e : old ≡ row_at b place) where
     pub old-amount-low : old.amount < 2 ^ 62
@@ -112,8 +109,8 @@ module _ (b : List ℕ) (rows place c first : ℕ) (h : RowHeld b rows place c f
 -- ---- a row in place of another
 
 module _ (b : List ℕ) (rows place : ℕ) (k : Contract) (x : Bill) (again : RowAgain b rows place k x) (a : ℕ) (e : a ≡ by_terms amount k x) where
-  pub replaceable : Replaceable b place (made x a)
-  replaceable = let n = held-needs b rows place _ _ again.old in record { long = n.0; inside = n.1; fits = made-fits (contracts b) k x again.row a e }
+  pub replaceable : Replaceable place (made x a)
+  replaceable = let n = held-inside b rows place _ _ again.old in record { inside = n; fits = made-fits (contracts b) k x again.row a e }
 
   pub row-replaced : (r : ℕ) → r ≡ by_terms rate k x → (old : Row) → old ≡ row_at b place → (after : List ℕ) (z : ℤ) → after ≡ replace_at (row_start place) (record_bytes row_record (made x a)) b → z ≡ sub_ℕ a old.amount
       → Changed (Rebilled x.reference r z) after (rebilled (facts b) k x) (row_replaced (facts b) k x)

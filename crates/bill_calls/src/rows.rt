@@ -4,6 +4,7 @@ ghost use Rattle.bill_refusals.specs.Requests.{RowHeld};
 ghost use Rattle.bill_calls.specs.Rows.{NewRow, RowAgain, Changed, billed, row_added, rebilled, row_replaced, cancelled, row_removed};
 
 use amounts::{Bill, amount, rate};
+use layout::LEDGER_LENGTH;
 use ledger::rows::row_at;
 use model::{Answer, Row};
 use rates::Contract;
@@ -11,7 +12,7 @@ use signed::difference;
 
 // The row of a bill that is new.
 pub fn add_row(
-    ledger: &mut [u8],
+    ledger: &mut [u8; LEDGER_LENGTH],
     rows: usize,
     place: usize,
     contract: Contract,
@@ -34,7 +35,7 @@ pub fn add_row(
 
 // The row of a bill that takes the place of another.
 pub fn replace_row(
-    ledger: &mut [u8],
+    ledger: &mut [u8; LEDGER_LENGTH],
     rows: usize,
     place: usize,
     contract: Contract,
@@ -57,7 +58,13 @@ pub fn replace_row(
 }
 
 // A row that is held.
-pub fn remove_row(ledger: &mut [u8], rows: usize, place: usize, contract: u32, first: u32) -> Answer
+pub fn remove_row(
+    ledger: &mut [u8; LEDGER_LENGTH],
+    rows: usize,
+    place: usize,
+    contract: u32,
+    first: u32,
+) -> Answer
     requires { RowHeld ledger.old rows place contract first }
     ensures { Changed result ledger.new (cancelled (facts ledger.old) contract first) (row_removed (facts ledger.old) contract first) }
 {

@@ -106,7 +106,7 @@ pub fn new_place(held: HeldRows<'_>, contract: Contract, bill: Bill) -> Result<u
 pub fn place_again(held: HeldRows<'_>, contract: Contract, bill: Bill) -> Result<usize, Refusal>
     requires { contract ≡ contract_at (contracts held.bytes.now) bill.contract }
     ensures refused { refusal_in result ≡ first_of (row_again_tests (view_of held.entry.bytes.now) bill) }
-    ensures placed { IfOk result (λ place. place ≡ place_of (named bill.contract bill.first) (facts held.entry.bytes.now).rows) }
+    ensures placed { IfOk result (λ place. RowHeld held.entry.bytes.now held.entry.count place bill.contract bill.first) }
 {
     let place = named_row(held, bill.contract, bill.first)?;
     refuse_if(

@@ -1,11 +1,11 @@
 -- `remove_row` takes the row out, and answers minus its amount.
 use native.Mathlib.Omega.{arith}
 use Rattle.signed.proofs.SignedDifferences.{signed-read}
-use Rattle.bill_calls.proofs.RowChanges.{held-needs, removable, old-amount-low, row-removed}
+use Rattle.bill_calls.proofs.RowChanges.{held-inside, removable, old-amount-low, row-removed}
 use Rattle.bill_calls.proofs.rows.remove_row.Goals as goal
 
 pub row_at-old-requires : goal.row_at-old-requires
-row_at-old-requires c = search held-needs
+row_at-old-requires c = search held-inside
 
 pub remove_row-requires : goal.remove_row-requires
 remove_row-requires c = search removable

@@ -1,13 +1,13 @@
 -- `replace_row` puts the row in place of the old one, and answers R, rate and the difference.
 use Rattle.signed.proofs.SignedDifferences.{signed-read}
-use Rattle.bill_calls.proofs.RowChanges.{row-rateable, held-needs, replaceable, new-amount-low, old-amount-low, row-replaced}
+use Rattle.bill_calls.proofs.RowChanges.{row-rateable, held-inside, replaceable, new-amount-low, old-amount-low, row-replaced}
 use Rattle.bill_calls.proofs.rows.replace_row.Goals as goal
 
 pub amount-requires : goal.amount-requires
 amount-requires c = search row-rateable
 
 pub row_at-old-requires : goal.row_at-old-requires
-row_at-old-requires c = search held-needs
+row_at-old-requires c = search held-inside
 
 pub replace_row-requires : goal.replace_row-requires
 replace_row-requires c = search replaceable
