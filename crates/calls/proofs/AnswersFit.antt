@@ -1,5 +1,8 @@
 -- Every answer of the calls has numbers that fit 64 bits with a sign. Assumes nothing.
 use Rattle.model.specs.declared.Request.{Request}
+use Rattle.std.specs.Prelude.{Result, Ok, Err, IfOk}
+use Rattle.refusals.specs.declared.Refusal.{Refusal}
+use Rattle.refusals.specs.Numbers.{by_number}
 use mathlib.Core.Path.{◌≡◌, refl, sym, subst}
 use mathlib.Core.Bool.{Bool, true, false, cond}
 use mathlib.Core.List.{List}
@@ -8,7 +11,6 @@ use native.Mathlib.Omega.{arith}
 use Rattle.rates.specs.TermsTaken.{terms_for}
 use Rattle.amounts.proofs.AmountBounds.{rate-low, amount-low}
 use Rattle.model.specs.declared.Answer.{Answer}
-use Rattle.model.specs.declared.Answer.TheVariants.{Refused}
 use Rattle.model.specs.OpenContracts.{contract_at}
 use Rattle.model.specs.declared.Call.{Call}
 use Rattle.model.specs.Calls.{CallWithBook, requested_bill, ◌with◌}
@@ -40,7 +42,7 @@ module _ (l : Ledger) (f : WellFormed rules l) where
       let terms = terms_for k b.first in
       (omega (arith, rate-low terms b rateable.supply), omega (arith, amount-low terms b rateable))
 
-  accepted-fits : (c : CallWithBook) → refusal rules (view l) c ≡ 0 → AnswerFits (accept rules l c).answers
+  accepted-fits : (c : CallWithBook) → refusal rules (view l) c ≡ 0 → IfOk (accept rules l c).answers AnswerFits
   unfolding accept
   accepted-fits (Call.Open c fuel kind fix entry with book) e = tt
   accepted-fits (Call.Bill q with book) e = taken-fits q book (present.rules.bills (view l) q book e)
@@ -54,30 +56,31 @@ module _ (l : Ledger) (f : WellFormed rules l) where
 
   -- ---- any call
 
-  any-fits : (c : CallWithBook) → AnswerFits (answer rules l c)
+  any-fits : (c : CallWithBook) → IfOk (answer rules l c) AnswerFits
   unfolding answer outcome
   any-fits c = go (refusal rules (view l) c) (accepted-fits c)
     where
-      go : (n : ℕ) → (n ≡ 0 → AnswerFits (accept rules l c).answers) → AnswerFits (unless_refused n (accept rules l c) (outcome_turned_down l n)).answers
+      go : (n : ℕ) → (n ≡ 0 → IfOk (accept rules l c).answers AnswerFits) → IfOk (unless_refused n (accept rules l c) (outcome_turned_down l n)).answers AnswerFits
       go zero h = h refl
       go (suc n) h = tt
 
-pub machine-fits : (b : List ℕ) (c : CallWithBook) → AnswerFits (machine.answer b c)
+pub machine-fits : (b : List ℕ) (c : CallWithBook) → IfOk (machine.answer b c) AnswerFits
 machine-fits b c = go (is_well_formed rules layout b) (λ e. any-fits (facts b) (facts-kept b e) c)
   where
-    go : (t : Bool) → (t ≡ true → AnswerFits (answer rules (facts b) c)) → AnswerFits (cond t (answer rules (facts b) c) (Refused 2))
+    go : (t : Bool) → (t ≡ true → IfOk (answer rules (facts b) c) AnswerFits) → IfOk (cond t (answer rules (facts b) c) (Err 2)) AnswerFits
     go true h = h refl
     go false h = tt
 
-pub start_fits : (b : List ℕ) (territory : ℕ) → AnswerFits (start_answer b territory)
+pub start_fits : (b : List ℕ) (territory : ℕ) → IfOk (start_answer b territory) AnswerFits
 unfolding start_answer
 start_fits b territory = go (start_refusal b territory)
   where
-    go : (n : ℕ) → AnswerFits (done_unless_refused n)
+    go : (n : ℕ) → IfOk (done_unless_refused n) AnswerFits
     go zero = tt
     go (suc n) = tt
 
--- ---- of an answer which is another's equal
+-- ---- of what a function gives, which is another's equal but for its refusal
 
-pub same-fits : {a b : Answer} → a ≡ b → AnswerFits b → AnswerFits a
-same-fits e h = subst AnswerFits (sym e) h
+pub same-fits : (said : Result Answer Refusal) {answer : Result Answer ℕ} → by_number said ≡ answer → IfOk answer AnswerFits → IfOk said AnswerFits
+same-fits (Ok a) e h = subst (λ (r : Result Answer ℕ). IfOk r AnswerFits) (sym e) h
+same-fits (Err r) e h = tt

@@ -11,15 +11,23 @@ ghost use Rattle.calls.specs.Replies.{Performed};
 use bill_calls::{bill, cancel, rebill};
 use claim_calls::{checked_report, checked_total, claim};
 use contract_calls::{amend, cert, open_contract};
-use layout::Checked;
+use layout::{LEDGER_LENGTH, Totals};
 use ledger::check::check;
 use model::{Answer, Call};
+use rates::Amendment;
+use refusals::Refusal;
 
 // A call on a ledger that was found well formed, with the number of its rows and the sum of their amounts.
-fn perform_checked(ledger: &mut [u8], rows: usize, due: u64, book: &[u32], call: Call) -> Answer
-    requires { Summed ledger.old rows due }
+fn perform_checked(
+    ledger: &mut [u8; LEDGER_LENGTH],
+    totals: Totals,
+    book: &[u32],
+    call: Call,
+) -> Result<Answer, Refusal>
+    requires { Summed ledger.old totals.rows totals.due }
     ensures { Answered ledger.old (call with book.now) result ledger.new }
 {
+    let Totals { rows, due } = totals;
     match call {
         Call::Open {
             contract,
@@ -48,22 +56,22 @@ fn perform_checked(ledger: &mut [u8], rows: usize, due: u64, book: &[u32], call:
             ledger,
             rows,
             contract,
-            original_end_day,
-            price_fix_day,
-            entry_day,
+            Amendment {
+                original_end_day,
+                price_fix_day,
+                entry_day,
+            },
         ),
     }
 }
 
 // What a call answers, and the bytes that it leaves, with the book that it brings.
-pub fn perform(ledger: &mut [u8], book: &[u32], call: Call) -> Answer
+pub fn perform(ledger: &mut [u8], book: &[u32], call: Call) -> Result<Answer, Refusal>
     ensures { Performed ledger.old (call with book.now) result ledger.new }
 {
-    let checked = check(ledger);
-    match checked {
-        Checked::Malformed => Answer::Refused(2),
-        Checked::WellFormed { rows, due } => {
-            perform_checked(ledger, rows as usize, due, book, call)
-        }
-    }
+    let Some(bytes) = ledger.as_mut_array::<LEDGER_LENGTH>() else {
+        return Err(Refusal::NotWellFormed);
+    };
+    let totals = check(bytes)?;
+    perform_checked(bytes, totals, book, call)
 }

@@ -1,20 +1,21 @@
 // The reply of an answer: what the program prints of it, and what C gets.
-ghost use Rattle.std.specs.Prelude.{◌≡◌};
+ghost use Rattle.std.specs.Prelude.{◌≡◌, Ok, IfOk};
+ghost use Rattle.refusals.specs.Numbers.{by_number};
 ghost use Rattle.model.specs.Calls.{reply_of, reply_without_numbers};
 ghost use Rattle.calls.specs.Replies.{AnswerFits, reply_with, reply_of_day, reply_of_date};
 
-use calendar::{DateAnswer, DayAnswer};
+use calendar::CalendarDate;
 use model::{ANSWER_NUMBERS, Answer, Reply};
+use refusals::Refusal;
 
 // A refusal by its number; 0 where it is ok without numbers.
 pub fn reply_without_numbers(refused: u32) -> Reply
     ensures { result ≡ reply_without_numbers refused }
 {
-    let numbers = [0i64; ANSWER_NUMBERS];
     Reply {
         refused,
         count: 0,
-        numbers,
+        numbers: [0; ANSWER_NUMBERS],
     }
 }
 
@@ -22,64 +23,72 @@ pub fn reply_without_numbers(refused: u32) -> Reply
 fn reply_with(count: usize, first: i64, second: i64, third: i64) -> Reply
     ensures { result ≡ reply_with count first second third }
 {
-    let mut numbers = [0i64; ANSWER_NUMBERS];
-    numbers[0] = first;
-    numbers[1] = second;
-    numbers[2] = third;
     Reply {
         refused: 0,
         count,
-        numbers,
+        numbers: [first, second, third],
     }
 }
 
-// The reply of a call on the ledger.
-pub fn reply_of(said: Answer) -> Reply
-    requires { AnswerFits said }
-    ensures { result ≡ reply_of said }
+// The reply of an accepted call. No From, which could not ask that the answer's numbers fit.
+fn reply_of_answer(answer: Answer) -> Reply
+    requires { AnswerFits answer }
+    ensures { result ≡ reply_of (Ok answer) }
 {
-    match said {
-        Answer::Refused(number) => reply_without_numbers(number),
+    match answer {
         Answer::Done => reply_without_numbers(0),
         Answer::Billed {
             reference,
             rate,
             amount,
-        } => reply_with(3, reference as i64, rate as i64, amount as i64),
+        } => reply_with(3, i64::from(reference), rate as i64, amount as i64),
         Answer::Rebilled {
             reference,
             rate,
             change,
-        } => reply_with(3, reference as i64, rate as i64, change),
-        Answer::Certified { change, rows } => reply_with(2, change, rows as i64, 0),
+        } => reply_with(3, i64::from(reference), rate as i64, change),
+        Answer::Certified { change, rows } => reply_with(2, change, i64::from(rows), 0),
         Answer::Cancelled { change } => reply_with(1, change, 0, 0),
-        Answer::Claimed { pence, rest } => reply_with(2, pence, rest as i64, 0),
-        Answer::Reported { rows, kwh, due } => reply_with(3, rows as i64, kwh as i64, due as i64),
+        Answer::Claimed { pence, rest } => reply_with(2, pence, i64::from(rest), 0),
+        Answer::Reported { rows, kwh, due } => {
+            reply_with(3, i64::from(rows), kwh as i64, due as i64)
+        }
         Answer::Totalled { due, unclaimed } => reply_with(2, due as i64, unclaimed, 0),
     }
 }
 
+// The reply of a call on the ledger.
+pub fn reply_of(said: Result<Answer, Refusal>) -> Reply
+    requires { IfOk said AnswerFits }
+    ensures { result ≡ reply_of (by_number said) }
+{
+    match said {
+        Ok(answer) => reply_of_answer(answer),
+        Err(refusal) => reply_without_numbers(u32::from(refusal)),
+    }
+}
+
 // The reply of `day`.
-pub fn reply_of_day(said: DayAnswer) -> Reply
+pub fn reply_of_day(said: Option<u32>) -> Reply
     ensures { result ≡ reply_of_day said }
 {
     match said {
-        DayAnswer::Day(day) => reply_with(1, day as i64, 0, 0),
-        DayAnswer::Refused(number) => reply_without_numbers(number),
+        Some(day) => reply_with(1, i64::from(day), 0, 0),
+        None => reply_without_numbers(u32::from(Refusal::BadDay)),
     }
 }
 
 // The reply of `date`.
-pub fn reply_of_date(said: DateAnswer) -> Reply
+pub fn reply_of_date(said: Option<CalendarDate>) -> Reply
     ensures { result ≡ reply_of_date said }
 {
     match said {
-        DateAnswer::Date(date) => reply_with(
+        Some(date) => reply_with(
             3,
-            date.year as i64,
-            date.month as i64,
-            date.day as i64,
+            i64::from(date.year),
+            i64::from(date.month),
+            i64::from(date.day),
         ),
-        DateAnswer::Refused(number) => reply_without_numbers(number),
+        None => reply_without_numbers(u32::from(Refusal::BadDay)),
     }
 }
