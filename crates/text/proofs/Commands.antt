@@ -1,46 +1,66 @@
--- A line's command from its name and its numbers. Assumes nothing.
-use mathlib.Core.Path.{◌≡◌, refl, sym, ap, ◌∙◌}
-use mathlib.Core.List.{List, [], ◌∷◌, ◌++◌}
-use Prim.Native.Nat.{ℕ, ◌<◌}
-use native.Mathlib.Omega.{arith}
-use lib.ListN.{length, take}
-use Rattle.text.specs.declared.pieces.Found.{Found}
-use Rattle.text.specs.declared.reading.Command.{Command}
+-- The forms of the table, by their names and counts. Assumes nothing.
+use Rattle.std.proofs.Common.{◌≡◌, ℕ, zero, suc, ◌+◌, ◌*◌, ◌<◌, ◌≤◌, Bool, true, false, cond, ◌&&◌, eqb, leb, ltb, List, [], ◌∷◌, ◌++◌, length, Option, Some, None, Result, Err, refl, sym, ap, subst, ◌∙◌, ◌⊎◌, inl, inr, arith, eqb-true, ltb-true, leb-true, append-nil, length-append}
+use Rattle.std.specs.Char.{is_ascii}
+use Rattle.std.specs.List.{list_all, join_with_byte}
+use Rattle.std.specs.Str.{IsAscii, IsUtf8}
+use Rattle.std.proofs.lemmas.Bool.{eqb-false}
+use Rattle.std.proofs.lemmas.Bool.Decides.{nat_tests}
+use Rattle.std.proofs.lemmas.List.Splits.{join_with_byte-slice_split}
+use Rattle.std.proofs.lemmas.List.Sums.{AllPass-from_list_all}
+use Rattle.std.proofs.lemmas.Slice.Eq.{bytes_eq-Decides}
+use Rattle.std.proofs.lemmas.Str.{IsAscii-append, IsUtf8-from_ascii}
+use Rattle.std.proofs.lemmas.Str.Ascii.{IsAscii-nil, IsAscii-cons, IsAscii-from_all}
 use Rattle.text.specs.Bytes.{space}
-use Rattle.text.specs.Pieces.{PieceEnds, pieces, pieces_after, place_from}
-use Rattle.text.specs.Numbers.{numbers_of}
-use Rattle.text.specs.Commands.{Form, forms, form_named, command_by, command_of_words, command_of}
-use Rattle.text.specs.ReadingSteps.{no_form, call_at}
-use Rattle.text.proofs.PieceLaws.{front-piece}
-use Rattle.text.proofs.Places.{names, named-at, named-nowhere, place-within}
+use Rattle.text.specs.Pieces.{pieces, same_text}
+use Rattle.text.specs.Numbers.{number_of, numbers_of, followed_by}
+use Rattle.text.specs.Commands.{Takes, Form, forms, form_named, no_command, command_with, command_by, command_of_words, command_of, most_numbers, shortest_line}
+use Rattle.text.proofs.WordNumbers.{number-word, number-IsAscii}
 
--- ---- the names of the table, as one text of words
-words : List Form → List ℕ
-words [] = []
-words (f ∷ []) = f.name
-words (f ∷ g ∷ fs) = f.name ++ (space ∷ words (g ∷ fs))
+-- another count of numbers makes no command
+pub wrong-count : (k : ℕ) (make : Takes k) (ns : List ℕ) → (length ns ≡ k → ⊥) → command_with k make ns ≡ no_command
+wrong-count zero make [] h = absurd (h refl)
+wrong-count zero make (n ∷ ns) h = refl
+wrong-count (suc k) make [] h = refl
+wrong-count (suc k) make (n ∷ ns) h = wrong-count k (make n) ns (λ e. h (ap suc e))
 
-unfoldable pub name_words : List ℕ
-unfolding words
-name_words = words forms
+-- ---- what the forms of the table have in common
+both : (a b : Bool) → (a && b) ≡ true → (a ≡ true) × (b ≡ true)
+both true b h = (refl, h)
+both false b h = cc
 
-all-names : pieces space name_words ≡ names forms
-unfolding name_words names pieces
-all-names = refl
+-- the name is ASCII, no call takes more numbers, and the name with two bytes for each number is long enough
+common : Form → Bool
+common f = list_all is_ascii f.name && (leb f.count most_numbers && leb shortest_line (length f.name + 2 * f.count))
 
--- ---- the line s, whose name ends at `end`, and x is the place of its name
-module _ {s : List ℕ} {end : ℕ} (h : PieceEnds space s 0 end) {x : Found} (w : x ≡ place_from 0 (pieces space name_words) (take end s)) where
-  by_name : command_of s ≡ command_by (form_named forms (take end s)) (numbers_of (pieces_after space s end))
-  unfolding command_of
-  by_name = ap command_of_words (front-piece space s end h)
+all-common : list_all common forms ≡ true
+unfolding common
+all-common = refl
 
-  pub unknown-name : x ≡ Found.Nowhere → Command.Unreadable ≡ command_of s
-  unknown-name e = sym (by_name ∙ rw (named-nowhere 0 forms (take end s) (sym e ∙ w ∙ rw all-names)))
+named-common : (fs : List Form) (word : List ℕ) (f : Form) → list_all common fs ≡ true → form_named fs word ≡ Some f → (common f ≡ true) × (same_text word f.name ≡ true)
+unfolding form_named
+named-common [] word f h e = cc
+named-common (g ∷ fs) word f h e = let a = both (common g) (list_all common fs) h in go (same_text word g.name) refl a.0 (named-common fs word f a.1) e
+  where
+    go : (t : Bool) → same_text word g.name ≡ t → common g ≡ true → (form_named fs word ≡ Some f → (common f ≡ true) × (same_text word f.name ≡ true)) → cond t (Some g) (form_named fs word) ≡ Some f
+        → (common f ≡ true) × (same_text word f.name ≡ true)
+    go true s k ih e = let q : g ≡ f = cc in subst (λ (x : Form). (common x ≡ true) × (same_text word x.name ≡ true)) q (k, s)
+    go false s k ih e = ih e
 
-  module _ {i : ℕ} (e : x ≡ Found.At i) where
-    pub place-below : i < length forms
-    unfolding names
-    place-below = omega (arith, place-within 0 i (pieces space name_words) (take end s) (sym e ∙ w), ap length all-names)
+pub record Common (word : List ℕ) (f : Form) : Type 0 where
+  pub ascii : IsAscii word
+  pub few : f.count ≤ most_numbers
+  pub long : shortest_line ≤ length word + 2 * f.count
 
-    pub by_place : {r : Command} → r ≡ call_at i s end → r ≡ command_of s
-    by_place called = called ∙ sym (by_name ∙ rw (named-at forms no_form (take end s) i 0 forms refl (sym e ∙ w ∙ rw all-names)))
+pub known-form : (word : List ℕ) (f : Form) → form_named forms word ≡ Some f → Common word f
+unfolding common same_text
+known-form word f e =
+    let k = named-common forms word f all-common e in
+    let name : word ≡ f.name = (bytes_eq-Decides word f.name).0 k.1 in
+    let a = both (list_all is_ascii f.name) (leb f.count most_numbers && leb shortest_line (length f.name + 2 * f.count)) k.0 in
+    let b = both (leb f.count most_numbers) (leb shortest_line (length f.name + 2 * f.count)) a.1 in
+    let ascii : IsAscii f.name = IsAscii-from_all f.name (λ i d l. ltb-true _ 128 (AllPass-from_list_all is_ascii f.name a.0 i d l)) in
+    record {
+      ascii = rw name ascii;
+      few = leb-true f.count most_numbers b.0;
+      long = rw name (leb-true shortest_line (length f.name + 2 * f.count) b.1);
+    }

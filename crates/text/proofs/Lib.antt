@@ -1,16 +1,11 @@
 -- Laws of texts in pieces, numbers in decimal, commands and lines.
 pub mod PieceLaws
-pub mod SameText
-pub mod Places
-pub mod Decimals
-pub mod WordTests
-pub mod Numbers
-pub mod Commands
 pub mod Digits
-pub mod RoundTrip
+pub mod WordNumbers
+pub mod Commands
+pub mod ReadableLines
+pub mod Words
 pub mod LineExamples
-pub mod Integers
+pub mod LineTexts
 pub mod Writes
-pub mod ShortestLines
 pub mod LineRoom
-pub mod NumberTexts

@@ -1,7 +1,7 @@
 -- Texts as lists of bytes. Assumes nothing.
-use Rattle.std.specs.Prelude.{List, [], ◌∷◌, ℕ}
+use Rattle.std.specs.Prelude.{List, ℕ, codes}
 use Prim.Native.Char.{Char, code}
-use Prim.Native.String.{String, [] as empty, ◌∷◌ as ◌before◌}
+use Prim.Native.String.{String}
 
 -- the byte of a character in ASCII
 abbrev pub byte : Char → ℕ
@@ -9,8 +9,7 @@ byte c = code c
 
 -- the bytes of a text in ASCII
 abbrev pub ascii : String → List ℕ
-ascii empty = []
-ascii (c before s) = byte c ∷ ascii s
+ascii = codes
 
 -- what stands between two words of a line
 abbrev pub space : ℕ

@@ -1,6 +1,5 @@
 -- A line as a command: a call's name and its numbers, single spaces between. Assumes nothing.
-use Rattle.std.specs.Prelude.{cond, List, [], ◌∷◌, ℕ, zero, suc}
-use Rattle.std.proofs.Math.Option.{Option, none, some}
+use Rattle.std.specs.Prelude.{cond, List, [], ◌∷◌, ℕ, zero, suc, Option, Some, None, Result, Ok, Err}
 use Prim.Native.String.{String}
 use Rattle.model.specs.declared.Call.{Call}
 use Rattle.model.specs.Calls.{request_of}
@@ -51,27 +50,31 @@ shortest_line = 5
 
 -- the form that has a name, if one has it
 unfoldable pub form_named : List Form → List ℕ → Option Form
-form_named [] word = none
-form_named (f ∷ fs) word = cond (same_text word f.name) (some f) (form_named fs word)
+form_named [] word = None
+form_named (f ∷ fs) word = cond (same_text word f.name) (Some f) (form_named fs word)
+
+-- number 1: the line can't be read
+abbrev pub no_command : Result Command ℕ
+no_command = Err 1
 
 -- the command that numbers make; another count of them makes none
-abbrev pub command_with : (k : ℕ) → Takes k → List ℕ → Command
-command_with zero make [] = make
-command_with zero make (n ∷ ns) = Command.Unreadable
-command_with (suc k) make [] = Command.Unreadable
+abbrev pub command_with : (k : ℕ) → Takes k → List ℕ → Result Command ℕ
+command_with zero make [] = Ok make
+command_with zero make (n ∷ ns) = no_command
+command_with (suc k) make [] = no_command
 command_with (suc k) make (n ∷ ns) = command_with k (make n) ns
 
 -- the command of a name and numbers: an unknown name, or a word that is no number, makes none
-abbrev pub command_by : Option Form → Option (List ℕ) → Command
-command_by none numbers = Command.Unreadable
-command_by (some f) none = Command.Unreadable
-command_by (some f) (some ns) = command_with f.count f.make ns
+abbrev pub command_by : Option Form → Option (List ℕ) → Result Command ℕ
+command_by None numbers = no_command
+command_by (Some f) None = no_command
+command_by (Some f) (Some ns) = command_with f.count f.make ns
 
 -- the command of a line's words
-abbrev pub command_of_words : List (List ℕ) → Command
-command_of_words [] = Command.Unreadable
+abbrev pub command_of_words : List (List ℕ) → Result Command ℕ
+command_of_words [] = no_command
 command_of_words (name ∷ words) = command_by (form_named forms name) (numbers_of words)
 
--- the command of a line, without its line feed
-unfoldable pub command_of : List ℕ → Command
+-- the command of a line, without its line feed, or number 1
+unfoldable pub command_of : List ℕ → Result Command ℕ
 command_of line = command_of_words (pieces space line)

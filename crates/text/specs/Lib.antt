@@ -3,6 +3,5 @@ pub mod Bytes
 pub mod Pieces
 pub mod Numbers
 pub mod Commands
-pub mod ReadingSteps
 pub mod Lines
 pub mod LineExamples

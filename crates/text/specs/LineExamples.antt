@@ -1,5 +1,5 @@
 -- Document 01, "The program and one run": a line of each call, and lines that can't be read, with their commands. Assumes nothing.
-use Rattle.std.specs.Prelude.{◌≡◌, List, [], ◌∷◌, map}
+use Rattle.std.specs.Prelude.{◌≡◌, List, [], ◌∷◌, map, Ok, Err}
 use Prim.Native.String.{String}
 use Rattle.model.specs.declared.Call.{Call}
 use Rattle.model.specs.Calls.{request_of}
@@ -44,5 +44,6 @@ unreadable =
     ∷ "date 4294967296" ∷ "date -1" ∷ "date +1" ∷ "date 1x" ∷ []
 
 pub record LinesRead : Type 0 where
-  pub as_commands : map (λ e. command_of (ascii e.line)) readable ≡ map (λ e. e.command) readable
-  pub as_unreadable : map (λ line. command_of (ascii line)) unreadable ≡ map (λ _. Command.Unreadable) unreadable
+  pub as_commands : map (λ e. command_of (ascii e.line)) readable ≡ map (λ e. Ok e.command) readable
+  -- 1: "The program's line can't be read"
+  pub as_unreadable : map (λ line. command_of (ascii line)) unreadable ≡ map (λ _. Err 1) unreadable

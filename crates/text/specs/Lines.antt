@@ -1,5 +1,6 @@
 -- The lines that are printed, how much room each takes at most, and what it is to write a text into a buffer. Assumes nothing.
 use Rattle.std.specs.Prelude.{◌≡◌, cond, List, [], ◌∷◌, ◌++◌, ℕ, ◌+◌, ◌*◌, ◌≤◌, eqb, ℤ, length, take, drop}
+use Rattle.std.specs.List.{flat_map}
 use Rattle.model.specs.declared.Reply.{Reply}
 use Rattle.model.specs.Calls.{answer_numbers}
 use Rattle.text.specs.Bytes.{ascii, space, line_feed}
@@ -11,8 +12,7 @@ spaced_number z = space ∷ integer_text z
 
 -- numbers, a space before each
 abbrev pub numbers_text : List ℤ → List ℕ
-numbers_text [] = []
-numbers_text (z ∷ zs) = spaced_number z ++ numbers_text zs
+numbers_text = flat_map spaced_number
 
 -- a line without its line feed: `ok` with the answer's numbers, or `refused` and the number, single spaces between
 abbrev pub words_text : Reply → List ℕ

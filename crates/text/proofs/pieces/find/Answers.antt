@@ -1,26 +1,25 @@
--- `find` meets its contract: the loop ends at a separator or at the end of the text, and passes another byte otherwise.
-use native.Mathlib.Omega.{arith}
-use borrow.Author.Rules.{rules}
-use Rattle.text.proofs.PieceLaws.{none-at-end, none-at-separator, one-at-other}
+-- `find` meets its contract: as many bytes are passed as stand before the separator.
+use Rattle.std.proofs.Common.{ℕ, ◌≡◌, ◌+◌, not, eqb, drop, ap, ◌∙◌, arith, rules, tests, length-drop}
+use Rattle.std.proofs.lemmas.Iterator.{YieldsList-from_slice}
+use Rattle.std.proofs.lemmas.Iterator.Consumers.{YieldsList-at, count_from_yields_List}
+use Rattle.std.proofs.lemmas.Iterator.Search.{YieldsList-from_take_while}
+use Rattle.std.proofs.lemmas.List.{take_rest}
+use Rattle.std.proofs.lemmas.List.Folds.{length-prefix_len}
+use Rattle.text.specs.Pieces.{bytes_before}
+use Rattle.text.proofs.PieceLaws.{before-within}
 use Rattle.text.proofs.pieces.find.Goals as goal
 
-pub returns-then-s-i : goal.returns-then-s-i
-returns-then-s-i c =
-    let a = c.args in
-    record {
-      first = omega (arith, c.loop-i.invariant.1, none-at-separator a.separator c.loop-i.i a.s.now c.loop-i-test.true c.if-s-i.true);
-      inside = search rules;
-    }
-
-pub loop-i-preserved : goal.loop-i-preserved
-loop-i-preserved c =
-    let a = c.args in
-    (search rules, omega (arith, c.loop-i.invariant.1, one-at-other a.separator c.loop-i.i a.s.now c.loop-i-test.true c.if-s-i.false))
-
 pub returns : goal.returns
+unfolding bytes_before
 returns c =
-    let a = c.args in
+    let s = c.args.s.now in
+    let at = c.args.at in
+    let rest = YieldsList-at c.take_while.ensures.source (YieldsList-from_slice (drop at s) (c.iter.ensures.rest ∙ take_rest s at)) in
+    let count : c.count.result ≡ bytes_before c.args.separator (drop at s) =
+        count_from_yields_List _ _ c.count.ensures.ran (YieldsList-from_take_while _ (λ b. not (eqb b c.args.separator)) rest c.take_while.ensures.closure c.take_while.ensures.done (λ x b q k. search (rules, tests)))
+        ∙ length-prefix_len _ (drop at s)
+    in
     record {
-      first = omega (arith, c.loop-i.invariant.1, none-at-end a.separator c.loop-i.i a.s.now c.loop-i-test.false);
-      inside = search rules;
+      first = ap (λ (n : ℕ). at + n) count;
+      inside = omega (arith, count, before-within c.args.separator (drop at s), length-drop at s);
     }

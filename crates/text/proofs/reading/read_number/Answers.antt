@@ -1,22 +1,16 @@
--- `read_number` meets its contract: each test of the length and of the first byte as the definition has it, and then the
--- value of the digits.
-use Rattle.text.proofs.WordTests.{no_digit, too_long, leading-zero, not-decimal, too_large, its-value}
+-- `read_number` meets its contract: a sign or a leading zero is none of a number's, and of any other word the library reads the number.
+use Rattle.std.proofs.Common.{arith, rules}
+use Rattle.std.proofs.lemmas.Bool.Decides.{nat_tests}
+use Rattle.text.proofs.WordNumbers.{sign-none, zero-none, read_as}
 use Rattle.text.proofs.reading.read_number.Goals as goal
+use Rattle.text.proofs.reading.read_number.Goals.{then-starts_with-via-then-starts_with, then-starts_with-via-else-starts_with+then-has_leading_zero}
 
-pub returns-then-word-eq0 : goal.returns-then-word-eq0
-returns-then-word-eq0 c = search no_digit
-
-pub returns-then-word-gt10 : goal.returns-then-word-gt10
-returns-then-word-gt10 c = search too_long
-
-pub returns-then-has_leading_zero : goal.returns-then-has_leading_zero
-returns-then-has_leading_zero c = search leading-zero
-
-pub returns-in_default : goal.returns-in_default
-returns-in_default c = search not-decimal
-
-pub returns-then-value-gt4294967295 : goal.returns-then-value-gt4294967295
-returns-then-value-gt4294967295 c = search too_large
+pub returns-then-starts_with : goal.returns-then-starts_with
+returns-then-starts_with c =
+    elim c.then-starts_with.branch
+    [ then-starts_with-via-then-starts_with w ↦ search (rules, sign-none)
+    | then-starts_with-via-else-starts_with+then-has_leading_zero w ↦ search (rules, zero-none)
+    ]
 
 pub returns : goal.returns
-returns c = search its-value
+returns c = search (rules, read_as)
