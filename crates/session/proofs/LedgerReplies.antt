@@ -1,4 +1,5 @@
 -- The reply of a call on the ledger, from what the call answers and leaves. Assumes nothing.
+use Rattle.std.specs.Prelude.{Result}
 use mathlib.Core.Path.{◌≡◌, ap, ◌∙◌}
 use mathlib.Core.List.{List}
 use Prim.Native.Nat.{ℕ}
@@ -8,7 +9,7 @@ use Rattle.model.specs.declared.Answer.{Answer}
 use Rattle.session.specs.Replies.{holding}
 
 -- the line of the answer
-pub line-said : {line : Reply} {a b : Answer} → line ≡ reply_of a → a ≡ b → line ≡ reply_of b
+pub line-said : {line : Reply} {a b : Result Answer ℕ} → line ≡ reply_of a → a ≡ b → line ≡ reply_of b
 line-said h e = h ∙ ap reply_of e
 
 -- another ledger with the same book, and another book with the same ledger

@@ -6,11 +6,10 @@ use native.Mathlib.Omega.{arith}
 use borrow.Author.Tests.{ne_eqb, lt-ltb, le-ltb}
 use lib.Arith.{lt_of_le-ne}
 use lib.ListN.{length, take, drop, drop_of_length-le, length-drop, length-take}
-use Rattle.text.specs.declared.reading.Command.{Command}
 use Rattle.model.specs.Calls.{reply_without_numbers}
 use Rattle.text.specs.Bytes.{line_feed}
 use Rattle.text.specs.Pieces.{pieces, bytes_before, PieceEnds}
-use Rattle.text.specs.Commands.{command_of}
+use Rattle.text.specs.Commands.{command_of, no_command}
 use Rattle.text.specs.Lines.{line_text, Wrote, WroteWithin}
 use Rattle.text.proofs.PieceLaws.{next-piece, front-piece, none_after, some_after, front_ends}
 use Rattle.text.proofs.Writes.{wrote_none, wrote_then, wrote-same}
@@ -26,7 +25,7 @@ pub printed-none : (s : State) → printed_of s [] ≡ []
 unfolding printed commands_of commands_of_pieces pieces
 printed-none s = refl
 
-pub printed-unreadable : (s : State) → printed (exchanges s (Command.Unreadable ∷ [])) ≡ line_text (reply_without_numbers 1)
+pub printed-unreadable : (s : State) → printed (exchanges s (no_command ∷ [])) ≡ line_text (reply_without_numbers 1)
 unfolding printed response_to
 printed-unreadable s = append-nil (line_text (reply_without_numbers 1))
 

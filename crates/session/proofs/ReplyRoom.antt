@@ -1,5 +1,6 @@
 -- How much room a reply takes: the numbers of the refusals have at most two digits, so that no line is longer than the longest, and a line
 -- that can be read is no shorter than the shortest; one that can't be read is refused in 10 bytes. Assumes nothing.
+use Rattle.std.specs.Prelude.{Result, Ok, Err, Option, Some, None}
 use mathlib.Core.Path.{◌≡◌, refl, ap, ◌∙◌}
 use mathlib.Core.Bool.{Bool, true, false, not, cond}
 use mathlib.Core.List.{List, [], ◌∷◌, map}
@@ -12,20 +13,17 @@ use Rattle.limits.specs.Limits.{day_count}
 use Rattle.basics.specs.Tests.{every}
 use Rattle.basics.proofs.Tests.{and_left, and_right, lt_yes}
 use Rattle.calendar.specs.declared.CalendarDate.{CalendarDate}
-use Rattle.calendar.specs.declared.DayAnswer.{DayAnswer}
-use Rattle.calendar.specs.declared.DateAnswer.{DateAnswer}
 use Rattle.calendar.specs.Calendar.{date_from}
 use Rattle.calendar.specs.Days.{dates, date_of}
-use Rattle.calendar.specs.Answers.{wrong_day, position, day_answer, date_answer}
+use Rattle.calendar.specs.Answers.{day_of_date, date_of_day}
 use Rattle.text.specs.declared.reading.Command.{Command}
-use Rattle.text.specs.Commands.{command_of, shortest_line}
+use Rattle.text.specs.Commands.{command_of, no_command, shortest_line}
 use Rattle.text.specs.Lines.{line_text, line_room, WroteWithin}
 use Rattle.text.proofs.LineRoom.{Short, short-room, refused-room}
 use Rattle.text.proofs.Writes.{wrote-same}
 use Rattle.text.proofs.ShortestLines.{no-shorter-line}
 use Rattle.model.specs.declared.Reply.{Reply}
 use Rattle.model.specs.declared.Answer.{Answer}
-use Rattle.model.specs.declared.Answer.TheVariants.{Refused}
 use Rattle.model.specs.declared.Call.{Call}
 use Rattle.model.specs.Calls.{reply_of, reply_without_numbers, CallWithBook, ◌with◌, Test, ◌if◌, first_of, answer_numbers}
 use Rattle.model.specs.Rules.{refusal, unless_refused}
@@ -76,7 +74,7 @@ answer-short l c = go (refusal rules (view l) c) (first-low (tests (view l) c) (
 machine-short : (b : List ℕ) (c : CallWithBook) → Short (reply_of (machine.answer b c))
 machine-short b c = go (is_well_formed rules layout b) (answer rules (facts b) c) (answer-short (facts b) c)
   where
-    go : (t : Bool) (a : Answer) → Short (reply_of a) → Short (reply_of (cond t a (Refused 2)))
+    go : (t : Bool) (a : Result Answer ℕ) → Short (reply_of a) → Short (reply_of (cond t a (Err 2)))
     go true a h = h
     go false a h = omega arith
 
@@ -89,21 +87,13 @@ start-short b territory = go (start_refusal b territory) (first-low ((2 if not (
     go zero h = omega arith
     go (suc n) h = omega arith
 
-day-short : (year month day : ℕ) → Short (reply_of_day (day_answer year month day))
-unfolding day_answer
-day-short year month day = let number = position (date_from year month day) dates in go (ltb number day_count) number
-  where
-    go : (t : Bool) (n : ℕ) → Short (reply_of_day (cond t (DayAnswer.Day n) (DayAnswer.Refused wrong_day)))
-    go true n = omega arith
-    go false n = omega arith
+day-short : (a : Option ℕ) → Short (reply_of_day a)
+day-short None = omega arith
+day-short (Some day) = omega arith
 
-date-short : (day : ℕ) → Short (reply_of_date (date_answer day))
-unfolding date_answer
-date-short day = go (ltb day day_count) (date_of day)
-  where
-    go : (t : Bool) (d : CalendarDate) → Short (reply_of_date (cond t (DateAnswer.Date d) (DateAnswer.Refused wrong_day)))
-    go true d = omega arith
-    go false d = omega arith
+date-short : (a : Option CalendarDate) → Short (reply_of_date a)
+date-short None = omega arith
+date-short (Some date) = omega arith
 
 price-short : (index value : ℕ) → Short (price_reply index value)
 unfolding price_reply
@@ -113,24 +103,24 @@ price-short index value = go (bad_price index value)
     go true = omega arith
     go false = omega arith
 
-pub reply-short : (s : State) (c : Command) → Short (reply s c)
+pub reply-short : (s : State) (c : Result Command ℕ) → Short (reply s c)
 unfolding response_to
-reply-short s (Command.Start territory) = start-short s.ledger territory
-reply-short s (Command.OnLedger c) = machine-short s.ledger (c with s.book)
-reply-short s (Command.Day year month day) = day-short year month day
-reply-short s (Command.Date day) = date-short day
-reply-short s (Command.Price index value) = price-short index value
-reply-short s Command.Unreadable = omega arith
+reply-short s (Ok (Command.Start territory)) = start-short s.ledger territory
+reply-short s (Ok (Command.OnLedger c)) = machine-short s.ledger (c with s.book)
+reply-short s (Ok (Command.Day year month day)) = day-short (day_of_date year month day)
+reply-short s (Ok (Command.Date day)) = date-short (date_of_day day)
+reply-short s (Ok (Command.Price index value)) = price-short index value
+reply-short s (Err n) = omega arith
 
 -- ---- the reply to a line, whose command is c
 line-room : (s : State) (line : List ℕ) → line_room (reply s (command_of line)) ≤ output_per_byte * (length line + 1)
 unfolding response_to
 line-room s line = ⊎_elim
-    (λ (e : command_of line ≡ Command.Unreadable). rw e (omega (arith, refused-room 0 1 (omega arith) (omega arith))))
+    (λ (e : command_of line ≡ no_command). rw e (omega (arith, refused-room 0 1 (omega arith) (omega arith))))
     (λ (l : shortest_line ≤ length line). omega (arith, short-room (reply s (command_of line)) (reply-short s (command_of line))))
     (no-shorter-line line)
 
-module _ (s : State) (line : List ℕ) {c : Command} (k : c ≡ command_of line) where
+module _ (s : State) (line : List ℕ) {c : Result Command ℕ} (k : c ≡ command_of line) where
   pub next-held : {after : State} → after ≡ next s c → after ≡ next s (command_of line)
   next-held e = e ∙ ap (next s) k
 

@@ -1,4 +1,5 @@
 -- The paper's run: its commands are read, its calls are answered as the model answers them, and the answers are printed. Assumes nothing.
+use Rattle.std.specs.Prelude.{Result, Ok}
 use mathlib.Core.Path.{◌≡◌, refl, ap, ◌∙◌}
 use mathlib.Core.List.{List, [], ◌∷◌, ◌++◌, map}
 use Prim.Native.Nat.{ℕ}
@@ -22,10 +23,10 @@ use Rattle.session.specs.RunTranscript.{run_input, run_output, TheRunIsPrinted}
 use Rattle.session.specs.SessionBalance.{empty_log, log_command, log_of}
 use Rattle.session.proofs.SessionBalance.{log-answers}
 
-on_ledger : CallWithBook → Command
-on_ledger (call with book) = Command.OnLedger call
+on_ledger : CallWithBook → Result Command ℕ
+on_ledger (call with book) = Ok (Command.OnLedger call)
 
-run_commands : List Command
+run_commands : List (Result Command ℕ)
 run_commands = map on_ledger run_calls
 
 run-read : input_commands run_input ≡ run_commands
@@ -58,7 +59,7 @@ run-text = refl
 pub the_run_is_printed : TheRunIsPrinted
 unfolding transcript
 the_run_is_printed =
-    ap (λ (cs : List Command). printed (exchanges initial cs)) run-read
+    ap (λ (cs : List (Result Command ℕ)). printed (exchanges initial cs)) run-read
     ∙ run-lines
     ∙ ap lines_text (run-answers ∙ ap (map reply_of) model-answers)
     ∙ run-text

@@ -1,4 +1,5 @@
 -- Every session balances: the log read off its exchanges follows what the program holds, command by command. Assumes nothing.
+use Rattle.std.specs.Prelude.{Result, Ok, Err}
 use mathlib.Core.Path.{◌≡◌, refl, sym, ap, ap₂, subst, ◌∙◌}
 use mathlib.Core.Bool.{Bool, true, false, not, cond}
 use mathlib.Core.List.{List, [], ◌∷◌, ◌++◌, map, map-append}
@@ -83,16 +84,16 @@ module _ (s : State) (l : Log) (a : Agrees s l) where
       record { book = ap (λ (b : List ℕ). set b index value) a.book; territory = a.territory; bytes = a.bytes; answers = a.answers }
 
   -- after any command
-  agrees-next : (c : Command) → Agrees (next s c) (log_command l c (reply s c))
+  agrees-next : (c : Result Command ℕ) → Agrees (next s c) (log_command l c (reply s c))
   unfolding response_to log_command start_answer start_bytes price_reply book_with
-  agrees-next (Command.Start territory) = agrees-start-by territory (start_refusal s.ledger territory) refl
-  agrees-next (Command.OnLedger c) = agrees-request (◌with◌ c)
-  agrees-next (Command.Day year month day) = a
-  agrees-next (Command.Date day) = a
-  agrees-next (Command.Price index value) = agrees-price-by index value (bad_price index value)
-  agrees-next Command.Unreadable = a
+  agrees-next (Ok (Command.Start territory)) = agrees-start-by territory (start_refusal s.ledger territory) refl
+  agrees-next (Ok (Command.OnLedger c)) = agrees-request (◌with◌ c)
+  agrees-next (Ok (Command.Day year month day)) = a
+  agrees-next (Ok (Command.Date day)) = a
+  agrees-next (Ok (Command.Price index value)) = agrees-price-by index value (bad_price index value)
+  agrees-next (Err n) = a
 
-agrees_after : (cs : List Command) (s : State) (l : Log) → Agrees s l → Agrees (run next s cs) (run (λ (m : Log) (e : Exchange). log_command m e.command e.reply) l (exchanges s cs))
+agrees_after : (cs : List (Result Command ℕ)) (s : State) (l : Log) → Agrees s l → Agrees (run next s cs) (run (λ (m : Log) (e : Exchange). log_command m e.command e.reply) l (exchanges s cs))
 agrees_after [] s l a = a
 agrees_after (c ∷ cs) s l a = agrees_after cs (next s c) (log_command l c (reply s c)) (agrees-next s l a c)
 
@@ -100,12 +101,12 @@ agrees_first : Agrees initial empty_log
 unfolding initial empty_log state_after answers_to
 agrees_first = record { book = refl; territory = omega arith; bytes = refl; answers = refl }
 
-agrees : (cs : List Command) → Agrees (state_after_commands cs) (log_of cs)
+agrees : (cs : List (Result Command ℕ)) → Agrees (state_after_commands cs) (log_of cs)
 unfolding state_after_commands log_of
 agrees cs = agrees_after cs initial empty_log agrees_first
 
 -- the lines printed for the history's calls are those of its answers
-pub log-answers : (cs : List Command) → (log_of cs).replies ≡ map reply_of (answers_to machine (log_of cs).territory (log_of cs).history)
+pub log-answers : (cs : List (Result Command ℕ)) → (log_of cs).replies ≡ map reply_of (answers_to machine (log_of cs).territory (log_of cs).history)
 log-answers cs = (agrees cs).answers
 
 pub every_session_balances : EverySessionBalances

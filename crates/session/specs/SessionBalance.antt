@@ -1,6 +1,6 @@
 -- What a session says of a history (document 01, "A history and its sheet"): since the last accepted start, or since the beginning, its
 -- ledger is that of a history, the lines printed are that history's answers, and they balance. Assumes nothing.
-use Rattle.std.specs.Prelude.{◌≡◌, Bool, true, false, cond, List, [], ◌∷◌, ◌++◌, map, ℕ, zero, suc, ◌≤◌, replicate, set}
+use Rattle.std.specs.Prelude.{◌≡◌, Bool, true, false, cond, List, [], ◌∷◌, ◌++◌, map, ℕ, zero, suc, ◌≤◌, replicate, set, Result, Ok, Err}
 use Rattle.limits.specs.Limits.{book_length}
 use Rattle.text.specs.declared.reading.Command.{Command}
 use Rattle.model.specs.declared.Reply.{Reply}
@@ -36,20 +36,20 @@ abbrev pub with_call : Log → CallWithBook → Reply → Log
 with_call l c said = record { book = l.book; territory = l.territory; history = l.history ++ (c ∷ []); replies = l.replies ++ (said ∷ []) }
 
 -- an accepted start begins a history; an accepted price changes the book; day, date and what can't be read are no part of a history
-unfoldable pub log_command : Log → Command → Reply → Log
-log_command l (Command.Start territory) said = cond (is_ok said) (record { book = l.book; territory = territory; history = []; replies = [] }) l
-log_command l (Command.OnLedger c) said = with_call l (c with l.book) said
-log_command l (Command.Day year month day) said = l
-log_command l (Command.Date day) said = l
-log_command l (Command.Price index value) said =
+unfoldable pub log_command : Log → Result Command ℕ → Reply → Log
+log_command l (Ok (Command.Start territory)) said = cond (is_ok said) (record { book = l.book; territory = territory; history = []; replies = [] }) l
+log_command l (Ok (Command.OnLedger c)) said = with_call l (c with l.book) said
+log_command l (Ok (Command.Day year month day)) said = l
+log_command l (Ok (Command.Date day)) said = l
+log_command l (Ok (Command.Price index value)) said =
     cond (is_ok said) (record { book = set l.book index value; territory = l.territory; history = l.history; replies = l.replies }) l
-log_command l Command.Unreadable said = l
+log_command l (Err n) said = l
 
 -- the log of a session's commands, read off the exchanges that its transcript prints, and what the program holds after them
-unfoldable pub log_of : List Command → Log
+unfoldable pub log_of : List (Result Command ℕ) → Log
 log_of commands = run (λ l e. log_command l e.command e.reply) empty_log (exchanges initial commands)
 
-unfoldable pub state_after_commands : List Command → State
+unfoldable pub state_after_commands : List (Result Command ℕ) → State
 state_after_commands commands = run next initial commands
 
 -- what is claimed of the log of a session and of the ledger that it leaves

@@ -15,7 +15,8 @@ ghost use Rattle.session.specs.Transcript.{commands_of, exchanges, printed, tran
 use calls::replies::reply_without_numbers;
 use layout::LEDGER_LENGTH;
 use limits::BOOK_LENGTH;
-use replies::{UNREADABLE, reply};
+use refusals::Refusal;
+use replies::reply;
 use text::pieces::find;
 use text::reading::{SHORTEST_LINE, read_command};
 use text::writing::{LONGEST_LINE, write_line};
@@ -54,7 +55,7 @@ fn write_unreadable(out: &mut [u8], at: usize) -> usize
     requires { at + 10 ≤ length out.old }
     ensures { WroteWithin 10 out.old out.new at result (line_text (reply_without_numbers 1)) }
 {
-    write_line(out, at, reply_without_numbers(UNREADABLE))
+    write_line(out, at, reply_without_numbers(u32::from(Refusal::Unreadable)))
 }
 
 // All lines of a text.
