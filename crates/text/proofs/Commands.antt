@@ -1,20 +1,13 @@
 -- The forms of the table, by their names and counts. Assumes nothing.
-use Rattle.std.proofs.Common.{◌≡◌, ℕ, zero, suc, ◌+◌, ◌*◌, ◌<◌, ◌≤◌, Bool, true, false, cond, ◌&&◌, eqb, leb, ltb, List, [], ◌∷◌, ◌++◌, length, Option, Some, None, Result, Err, refl, sym, ap, subst, ◌∙◌, ◌⊎◌, inl, inr, arith, eqb-true, ltb-true, leb-true, append-nil, length-append}
+use Rattle.std.proofs.Common.{◌≡◌, ℕ, zero, suc, ◌+◌, ◌*◌, ◌≤◌, Bool, true, false, cond, ◌&&◌, leb, List, [], ◌∷◌, length, Some, refl, ap, subst, ltb-true, leb-true}
 use Rattle.std.specs.Char.{is_ascii}
-use Rattle.std.specs.List.{list_all, join_with_byte}
-use Rattle.std.specs.Str.{IsAscii, IsUtf8}
-use Rattle.std.proofs.lemmas.Bool.{eqb-false}
-use Rattle.std.proofs.lemmas.Bool.Decides.{nat_tests}
-use Rattle.std.proofs.lemmas.List.Splits.{join_with_byte-slice_split}
+use Rattle.std.specs.List.{list_all}
+use Rattle.std.specs.Str.{IsAscii}
 use Rattle.std.proofs.lemmas.List.Sums.{AllPass-from_list_all}
 use Rattle.std.proofs.lemmas.Slice.Eq.{bytes_eq-Decides}
-use Rattle.std.proofs.lemmas.Str.{IsAscii-append, IsUtf8-from_ascii}
-use Rattle.std.proofs.lemmas.Str.Ascii.{IsAscii-nil, IsAscii-cons, IsAscii-from_all}
-use Rattle.text.specs.Bytes.{space}
-use Rattle.text.specs.Pieces.{pieces, same_text}
-use Rattle.text.specs.Numbers.{number_of, numbers_of, followed_by}
-use Rattle.text.specs.Commands.{Takes, Form, forms, form_named, no_command, command_with, command_by, command_of_words, command_of, most_numbers, shortest_line}
-use Rattle.text.proofs.WordNumbers.{number-word, number-IsAscii}
+use Rattle.std.proofs.lemmas.Str.Ascii.{IsAscii-from_all}
+use Rattle.text.specs.Pieces.{same_text}
+use Rattle.text.specs.Commands.{Takes, Form, forms, form_named, no_command, command_with, most_numbers, shortest_line}
 
 -- another count of numbers makes no command
 pub wrong-count : (k : ℕ) (make : Takes k) (ns : List ℕ) → (length ns ≡ k → ⊥) → command_with k make ns ≡ no_command
@@ -46,12 +39,13 @@ named-common (g ∷ fs) word f h e = let a = both (common g) (list_all common fs
     go true s k ih e = let q : g ≡ f = cc in subst (λ (x : Form). (common x ≡ true) × (same_text word x.name ≡ true)) q (k, s)
     go false s k ih e = ih e
 
-pub record Common (word : List ℕ) (f : Form) : Type 0 where
+-- what a word that names a form gives
+pub record KnownForm (word : List ℕ) (f : Form) : Type 0 where
   pub ascii : IsAscii word
   pub few : f.count ≤ most_numbers
   pub long : shortest_line ≤ length word + 2 * f.count
 
-pub known-form : (word : List ℕ) (f : Form) → form_named forms word ≡ Some f → Common word f
+pub known-form : (word : List ℕ) (f : Form) → form_named forms word ≡ Some f → KnownForm word f
 unfolding common same_text
 known-form word f e =
     let k = named-common forms word f all-common e in

@@ -2,6 +2,7 @@
 pub mod PieceLaws
 pub mod Digits
 pub mod WordNumbers
+pub mod RoundTrip
 pub mod Commands
 pub mod ReadableLines
 pub mod Words

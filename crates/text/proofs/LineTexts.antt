@@ -1,13 +1,12 @@
 -- The line of a reply, part by part, and its room. Assumes nothing.
-use Rattle.std.proofs.Common.{◌≡◌, ℕ, ◌+◌, ◌*◌, ◌^◌, ◌<◌, ◌≤◌, Bool, true, false, List, [], ◌∷◌, ◌++◌, length, take, get_or, ℤ, pos, to_z, of_z, w64, refl, sym, ap, ◌∙◌, arith, append_assoc, length-append, eq-eqb, ne_eqb}
+use Rattle.std.proofs.Common.{◌≡◌, ℕ, ◌+◌, ◌*◌, ◌^◌, ◌<◌, ◌≤◌, List, [], ◌∷◌, ◌++◌, length, take, get_or, ℤ, pos, to_z, of_z, w64, sym, ap, ◌∙◌, arith, append_assoc, length-append, eq-eqb, ne_eqb}
 use mir.Val.{SFits}
 use Rattle.std.specs.Fmt.{decimal, signed_decimal}
 use Rattle.std.proofs.lemmas.Int.{to_z-of_z}
 use Rattle.std.proofs.lemmas.List.{take_more, take_all, flat_map_more}
 use Rattle.model.specs.declared.Reply.{Reply}
 use Rattle.text.specs.Bytes.{ascii, space}
-use Rattle.text.specs.Numbers.{digits, integer_text}
-use Rattle.text.specs.Lines.{spaced_number, numbers_text, number_room, words_text, words_room, line_text, line_room}
+use Rattle.text.specs.Lines.{spaced_number, numbers_text, number_room, words_text, words_room}
 use Rattle.text.proofs.Digits.{digits-decimal, integer_text-signed_decimal}
 
 -- a number more: one that is passed on is read back from its bits

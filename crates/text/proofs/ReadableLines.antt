@@ -11,7 +11,7 @@ use Rattle.text.specs.Pieces.{pieces}
 use Rattle.text.specs.Numbers.{number_of, numbers_of, followed_by}
 use Rattle.text.specs.Commands.{Form, forms, form_named, no_command, command_with, command_by, command_of_words, command_of, shortest_line}
 use Rattle.text.proofs.WordNumbers.{number-word, number-IsAscii}
-use Rattle.text.proofs.Commands.{wrong-count, Common, known-form}
+use Rattle.text.proofs.Commands.{wrong-count, KnownForm, known-form}
 
 -- a name of the table, and as many numbers as its form takes
 record Readable (s : List ℕ) : Type 0 where
@@ -76,8 +76,8 @@ numbers-step w ws (Some n) q (Some ms) ih ns e =
     let d = number-word w n q in
     let more = ih ms refl in
     record {
-      ascii = IsAscii-cons space (w ++ with_spaces ws) (omega arith) (IsAscii-append w (with_spaces ws) (number-IsAscii w d.1) more.ascii);
-      long = omega (arith, ap length k, d.0, more.long, length-append w (with_spaces ws));
+      ascii = IsAscii-cons space (w ++ with_spaces ws) (omega arith) (IsAscii-append w (with_spaces ws) (number-IsAscii d) more.ascii);
+      long = omega (arith, ap length k, d.some, more.long, length-append w (with_spaces ws));
     }
 
 numbers-read : (ws : List (List ℕ)) (ns : List ℕ) → numbers_of ws ≡ Some ns → Numbers ws ns
@@ -86,7 +86,7 @@ numbers-read [] ns e = let q : [] ≡ ns = cc in record { ascii = IsAscii-nil; l
 numbers-read (w ∷ ws) ns e = numbers-step w ws (number_of w) refl (numbers_of ws) (numbers-read ws) ns e
 
 module _ {s : List ℕ} (r : Readable s) where
-  known : Common r.name r.form
+  known : KnownForm r.name r.form
   known = known-form r.name r.form r.called
 
   counted : Numbers r.words r.numbers

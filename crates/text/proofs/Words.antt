@@ -117,5 +117,5 @@ module _ {line name : List ℕ} {t : Split ℕ} (n : Named line name t) where
       pub more-gathered : (m : ℕ) → Some m ≡ number_of x.now → Gathered (drop 1 (pieces space line)) (length xs + 1) (ns ++ m ∷ [])
       more-gathered m q = one-gathered so x.now turn.0 turn.1 m (sym q)
 
-      pub crowded : (m : ℕ) → Some m ≡ number_of x.now → length ns ≡ most_numbers → no_command ≡ command_of line
-      crowded m q l = sym (by_name ∙ too_many so x.now turn.0 turn.1 (omega (arith, so.count)) m (sym q) name)
+      pub too_many_numbers : (m : ℕ) → Some m ≡ number_of x.now → length ns ≡ most_numbers → no_command ≡ command_of line
+      too_many_numbers m q l = sym (by_name ∙ too_many so x.now turn.0 turn.1 (omega (arith, so.count)) m (sym q) name)

@@ -1,5 +1,5 @@
 // Reading: a line as a command.
-ghost use Rattle.std.specs.Prelude.{◌≡◌, Some};
+ghost use Rattle.std.specs.Prelude.{◌≡◌, ◌≢◌, [], ◌∷◌, length, Some, IfOk, IfErr, OnErr};
 ghost use Rattle.refusals.specs.Numbers.{by_number};
 ghost use Rattle.text.specs.Numbers.{has_leading_zero, number_of};
 ghost use Rattle.text.specs.Commands.{forms, form_named, command_by, command_of};
@@ -43,6 +43,28 @@ fn read_number(word: &str) -> Option<u32>
     word.parse().ok()
 }
 
+// The request of a bill or rebill, by its numbers.
+fn request(numbers: &[u32]) -> Result<Request, Refusal>
+    ensures read { IfOk result (λ q. numbers.now
+        ≡ q.contract ∷ q.first ∷ q.last ∷ q.kwh ∷ q.supply ∷ q.wap ∷ q.etii ∷ q.qhs ∷ []) }
+    ensures refused { OnErr result (length numbers.now ≢ 8) }
+    ensures number { IfErr result (λ r. r ≡ Refusal.Unreadable) }
+{
+    let &[contract, first, last, kwh, supply, wap, etii, qhs] = numbers else {
+        return Err(Refusal::Unreadable);
+    };
+    Ok(Request {
+        contract,
+        first,
+        last,
+        kwh,
+        supply,
+        wap,
+        etii,
+        qhs,
+    })
+}
+
 // The command of a name and numbers.
 #[tactic(auto, unfolding(crate::specs::Commands::form_named, crate::specs::Pieces::same_text))]
 fn command_by(name: &str, numbers: &[u32]) -> Result<Command, Refusal>
@@ -59,30 +81,8 @@ fn command_by(name: &str, numbers: &[u32]) -> Result<Command, Refusal>
                 entry_day,
             }))
         }
-        ("bill", &[contract, first, last, kwh, supply, wap, etii, qhs]) => {
-            Ok(Command::OnLedger(Call::Bill(Request {
-                contract,
-                first,
-                last,
-                kwh,
-                supply,
-                wap,
-                etii,
-                qhs,
-            })))
-        }
-        ("rebill", &[contract, first, last, kwh, supply, wap, etii, qhs]) => {
-            Ok(Command::OnLedger(Call::Rebill(Request {
-                contract,
-                first,
-                last,
-                kwh,
-                supply,
-                wap,
-                etii,
-                qhs,
-            })))
-        }
+        ("bill", _) => Ok(Command::OnLedger(Call::Bill(request(numbers)?))),
+        ("rebill", _) => Ok(Command::OnLedger(Call::Rebill(request(numbers)?))),
         ("cert", &[contract, class, effective_day]) => Ok(Command::OnLedger(Call::Cert {
             contract,
             class,
@@ -115,8 +115,9 @@ pub fn read_command(line: &[u8]) -> Result<Command, Refusal>
         return Err(Refusal::Unreadable);
     };
     let mut words = line.split(' ');
+    // A line without a space is one word.
     let Some(name) = words.next() else {
-        return Err(Refusal::Unreadable);
+        unreachable!()
     };
     let mut numbers = ArrayVec::<u32, MOST_NUMBERS>::new();
     for word in words {

@@ -16,8 +16,8 @@ returns c =
     let at = c.args.at in
     let rest = YieldsList-at c.take_while.ensures.source (YieldsList-from_slice (drop at s) (c.iter.ensures.rest ∙ take_rest s at)) in
     let count : c.count.result ≡ bytes_before c.args.separator (drop at s) =
-        count_from_yields_List _ _ c.count.ensures.ran (YieldsList-from_take_while _ (λ b. not (eqb b c.args.separator)) rest c.take_while.ensures.closure c.take_while.ensures.done (λ x b q k. search (rules, tests)))
-        ∙ length-prefix_len _ (drop at s)
+    count_from_yields_List _ _ c.count.ensures.ran (YieldsList-from_take_while _ (λ b. not (eqb b c.args.separator)) rest c.take_while.ensures.closure c.take_while.ensures.done (λ x b q k. search (rules, tests)))
+    ∙ length-prefix_len _ (drop at s)
     in
     record {
       first = ap (λ (n : ℕ). at + n) count;

@@ -2,7 +2,7 @@
 use Rattle.std.proofs.Common.{◌≡◌, ◌∷◌, ◌++◌, [], rules, sym, ◌∙◌}
 use Rattle.std.proofs.lemmas.List.{length_push}
 use Rattle.text.proofs.ReadableLines.{not-text}
-use Rattle.text.proofs.Words.{Named, named, none-gathered, unread, more-gathered, crowded, ended}
+use Rattle.text.proofs.Words.{named, none-gathered, unread, more-gathered, too_many_numbers, ended}
 use Rattle.text.proofs.reading.read_command.Goals as goal
 
 pub returns-in_default : goal.returns-in_default
@@ -31,7 +31,7 @@ loop-word-preserved c =
 pub returns-then-is_err : goal.returns-then-is_err
 returns-then-is_err c =
     let i = c.loop-word.invariant in
-    crowded i.named _ _ c.loop-word.yielded_by i.gathered _ _ _ c.in-Some-word.is c.next-in-loop-word.ensures.steps c.in-Some-read_number.value (search rules) (search rules)
+    too_many_numbers i.named _ _ c.loop-word.yielded_by i.gathered _ _ _ c.in-Some-word.is c.next-in-loop-word.ensures.steps c.in-Some-read_number.value (search rules) (search rules)
 
 pub returns : goal.returns
 returns c =

@@ -16,10 +16,10 @@ loop-number-preserved c =
 pub returns : goal.returns
 returns c =
     let words : AreWords c.args.reply c.if-reply-eq0.line.bytes =
-        elim c.if-reply-eq0.branch
-        [ then-reply-eq0+else-loop-number-test w ↦ rw w.line-is (let i = w.loop-number.invariant in ok-words _ _ w.if-reply-eq0.true _ w.loop-number-test.false (search rules) i.text i.room)
-        | else-reply-eq0 w ↦ rw w.line-is (refused-words _ _ w.if-reply-eq0.false (search rules) (search rules))
-        ]
+    elim c.if-reply-eq0.branch [
+      | then-reply-eq0+else-loop-number-test w ↦ rw w.line-is (let i = w.loop-number.invariant in ok-words _ _ w.if-reply-eq0.true _ w.loop-number-test.false (search rules) i.text i.room)
+      | else-reply-eq0 w ↦ rw w.line-is (refused-words _ _ w.if-reply-eq0.false (search rules) (search rules))
+    ]
     in
     record {
       text = c.push_str-2.ensures.bytes ∙ ap (λ (t : List ℕ). t ++ 10 ∷ []) words.text;
