@@ -13,6 +13,7 @@ use claim_calls::{checked_report, checked_total, claim};
 use contract_calls::{amend, cert, open_contract};
 use layout::{LEDGER_LENGTH, Totals};
 use ledger::check::check;
+use ledger::rows::HeldRows;
 use model::{Answer, Call};
 use rates::Amendment;
 use refusals::Refusal;
@@ -27,7 +28,7 @@ fn perform_checked(
     requires { Summed ledger.old totals.rows totals.due }
     ensures { Answered ledger.old (call with book.now) result ledger.new }
 {
-    let Totals { rows, due } = totals;
+    let rows = totals.rows;
     match call {
         Call::Open {
             contract,
@@ -44,9 +45,15 @@ fn perform_checked(
             effective_day,
         } => cert(ledger, rows, contract, class, effective_day),
         Call::Cancel { contract, first } => cancel(ledger, rows, contract, first),
-        Call::Claim => claim(ledger, rows, due),
-        Call::Report { contract } => checked_report(ledger, rows, contract),
-        Call::Total => checked_total(ledger, rows, due),
+        Call::Claim => claim(ledger, totals),
+        Call::Report { contract } => {
+            let held = HeldRows {
+                bytes: ledger,
+                count: rows,
+            };
+            checked_report(held, contract)
+        }
+        Call::Total => Ok(checked_total(ledger, totals)),
         Call::Amend {
             contract,
             original_end_day,

@@ -1,4 +1,5 @@
 -- The sums of a report, by one row of the contract after the other. Assumes nothing.
+use Rattle.std.specs.Prelude.{Ok}
 use mathlib.Core.Path.{◌≡◌}
 use mathlib.Core.Bool.{Bool, cond}
 use mathlib.Core.List.{List, []}
@@ -64,7 +65,7 @@ module _ (b : List ℕ) (c n : ℕ) (s : Searched b n) where
       due-fit = omega (arith, summed-most reported-next.due-to, amounts-low (facts-kept b s.formed) present.rules (of_contract c))
 
     -- all rows of the contract
-    pub reported-all : end ≤ i → Reported rows kwh due ≡ (accept rules (facts b) (Call.Report c with [])).answers
+    pub reported-all : end ≤ i → Ok (Reported rows kwh due) ≡ (accept rules (facts b) (Call.Report c with [])).answers
     unfolding accept
     reported-all k =
         rw (

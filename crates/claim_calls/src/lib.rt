@@ -2,60 +2,57 @@
 
 #![tactic(auto)]
 
-ghost use Rattle.std.specs.Prelude.{◌≡◌, [], ◌<◌};
+ghost use Rattle.std.specs.Prelude.{◌≡◌, [], ◌<◌, Ok};
 ghost use Rattle.limits.specs.Limits.{contract_count};
 ghost use Rattle.model.specs.declared.Call.{Call};
 ghost use Rattle.model.specs.Calls.{◌with◌};
 ghost use Rattle.model.specs.Ledger.{accept};
-ghost use Rattle.layout.specs.Present.{rules, facts, Searched};
+ghost use Rattle.layout.specs.Present.{rules, facts};
 ghost use Rattle.ledger.specs.Answered.{Summed, AnsweredWithAnyBook};
 
 use codec::header::write_header;
-use layout::Checked;
+use layout::{LEDGER_LENGTH, Totals};
 use ledger::check::check;
-use ledger::contracts::refused_contract;
-use ledger::rows::{first_reaching, row_at};
+use ledger::contracts::named_contract;
+use ledger::rows::{HeldRows, row_at};
 use limits::{MOST_CLAIMS, TICKS_PER_PENNY};
 use model::Answer;
+use refusals::{Refusal, refuse_if};
 use signed::difference;
 
 // claim: answers floor(due / 10,000) minus the pence claimed before, and due modulo 10,000. The header then holds one claim more and the
 // pence claimed.
-pub fn claim(ledger: &mut [u8], rows: usize, due: u64) -> Answer
-    requires { Summed ledger.old rows due }
+pub fn claim(ledger: &mut [u8; LEDGER_LENGTH], totals: Totals) -> Result<Answer, Refusal>
+    requires { Summed ledger.old totals.rows totals.due }
     ensures { AnsweredWithAnyBook ledger.old Call.Claim result ledger.new }
 {
     let claims = codec::header::claims(ledger);
-    if MOST_CLAIMS <= claims {
-        return Answer::Refused(13);
-    }
+    refuse_if(MOST_CLAIMS <= claims, Refusal::ClaimsSpent)?;
     let territory = codec::header::territory(ledger);
     let before = codec::header::pence(ledger);
-    let pence = due / TICKS_PER_PENNY;
+    let pence = totals.due / TICKS_PER_PENNY;
     write_header(ledger, territory, claims + 1, pence);
-    Answer::Claimed {
+    Ok(Answer::Claimed {
         pence: difference(pence, before),
-        rest: (due % TICKS_PER_PENNY) as u32,
-    }
+        rest: (totals.due % TICKS_PER_PENNY) as u32,
+    })
 }
 
 // The answer of a report that nothing turns down: the sums over the held rows of the contract, which stand together.
-fn accepted_report(ledger: &[u8], rows: usize, contract: u32) -> Answer
-    requires { Searched ledger.now rows × (contract < contract_count) }
-    ensures { result ≡ (accept rules (facts ledger.now) (Call.Report contract with [])).answers }
+fn accepted_report(held: HeldRows<'_>, contract: u32) -> Answer
+    requires { contract < contract_count }
+    ensures { Ok result ≡ (accept rules (facts held.entry.bytes.now) (Call.Report contract with [])).answers }
 {
     let mut count: u32 = 0;
     let mut kwh: u64 = 0;
     let mut due: u64 = 0;
-    let mut i = first_reaching(ledger, rows, contract, 0);
-    let end = first_reaching(ledger, rows, contract + 1, 0);
-    while i < end {
-        let row = row_at(ledger, i);
-        let bill = row.bill;
+    let first = held.first_reaching(contract, 0);
+    let end = held.first_reaching(contract + 1, 0);
+    for i in first..end {
+        let row = row_at(held.bytes, i);
         count += 1;
-        kwh += bill.kwh as u64;
+        kwh += u64::from(row.bill.kwh);
         due += row.amount;
-        i += 1;
     }
     Answer::Reported {
         rows: count,
@@ -65,47 +62,47 @@ fn accepted_report(ledger: &[u8], rows: usize, contract: u32) -> Answer
 }
 
 // report: answers the rows, kWh and due of the contract.
-pub fn checked_report(ledger: &[u8], rows: usize, contract: u32) -> Answer
-    requires { Searched ledger.now rows }
-    ensures { AnsweredWithAnyBook ledger.now (Call.Report contract) result ledger.now }
+pub fn checked_report(held: HeldRows<'_>, contract: u32) -> Result<Answer, Refusal>
+    ensures { AnsweredWithAnyBook held.entry.bytes.now (Call.Report contract) result held.entry.bytes.now }
 {
-    let refused = refused_contract(ledger, contract);
-    if refused != 0 {
-        return Answer::Refused(refused);
-    }
-    accepted_report(ledger, rows, contract)
+    named_contract(held.bytes, contract)?;
+    Ok(accepted_report(held, contract))
 }
 
 // total: answers due, and the unclaimed amount, which is due minus 10,000 times the pence claimed.
-pub fn checked_total(ledger: &[u8], rows: usize, due: u64) -> Answer
-    requires { Summed ledger.now rows due }
-    ensures { AnsweredWithAnyBook ledger.now Call.Total result ledger.now }
+pub fn checked_total(ledger: &[u8; LEDGER_LENGTH], totals: Totals) -> Answer
+    requires { Summed ledger.now totals.rows totals.due }
+    ensures { AnsweredWithAnyBook ledger.now Call.Total (Ok result) ledger.now }
 {
     let claimed = TICKS_PER_PENNY * codec::header::pence(ledger);
     Answer::Totalled {
-        due,
-        unclaimed: difference(due, claimed),
+        due: totals.due,
+        unclaimed: difference(totals.due, claimed),
     }
 }
 
 // report on any bytes, which stay as they are.
-pub fn report(ledger: &[u8], contract: u32) -> Answer
+pub fn report(ledger: &[u8], contract: u32) -> Result<Answer, Refusal>
     ensures { AnsweredWithAnyBook ledger.now (Call.Report contract) result ledger.now }
 {
-    let checked = check(ledger);
-    match checked {
-        Checked::Malformed => Answer::Refused(2),
-        Checked::WellFormed { rows, due: _ } => checked_report(ledger, rows as usize, contract),
-    }
+    let Some(bytes) = ledger.as_array::<LEDGER_LENGTH>() else {
+        return Err(Refusal::NotWellFormed);
+    };
+    let totals = check(bytes)?;
+    let held = HeldRows {
+        bytes,
+        count: totals.rows,
+    };
+    checked_report(held, contract)
 }
 
 // total on any bytes, which stay as they are.
-pub fn total(ledger: &[u8]) -> Answer
+pub fn total(ledger: &[u8]) -> Result<Answer, Refusal>
     ensures { AnsweredWithAnyBook ledger.now Call.Total result ledger.now }
 {
-    let checked = check(ledger);
-    match checked {
-        Checked::Malformed => Answer::Refused(2),
-        Checked::WellFormed { rows, due } => checked_total(ledger, rows as usize, due),
-    }
+    let Some(bytes) = ledger.as_array::<LEDGER_LENGTH>() else {
+        return Err(Refusal::NotWellFormed);
+    };
+    let totals = check(bytes)?;
+    Ok(checked_total(bytes, totals))
 }

@@ -9,8 +9,7 @@ use model::{ANSWER_NUMBERS, Call, Reply};
 pub fn give(reply: Reply, answer: &mut [i64; ANSWER_NUMBERS]) -> u32
     ensures { Given reply result answer.new }
 {
-    let numbers = reply.numbers;
-    *answer = numbers;
+    *answer = reply.numbers;
     reply.refused
 }
 

@@ -1,18 +1,16 @@
 -- `checked_report` is turned down by 4 or 5, or answers the sums.
-use Rattle.layout.proofs.Present.{formed-length}
+use Rattle.std.proofs.lemmas.Result.{err_from_is_err_and}
 use Rattle.ledger.proofs.Refusals.{contract-low}
 use Rattle.claim_calls.proofs.CallAnswers.{report-refused, report-accepted}
-use borrow.Author.Rules.{rules}
 use Rattle.claim_calls.proofs.checked_report.Goals as goal
 
-pub refused_contract-refused-requires : goal.refused_contract-refused-requires
-refused_contract-refused-requires c = search formed-length
-
-pub returns-then-refused-ne0 : goal.returns-then-refused-ne0
-returns-then-refused-ne0 c = search report-refused
+pub returns-in_err-named_contract : goal.returns-in_err-named_contract
+returns-in_err-named_contract c =
+    let p = err_from_is_err_and c.from_residual.result c.from_residual.ensures.1 in
+    rw (p.1, p.2) (report-refused _ _ _ c.args.held.searched _ c.in_err-named_contract.ensures.refused)
 
 pub accepted_report-requires : goal.accepted_report-requires
-accepted_report-requires c = search (rules, contract-low)
+accepted_report-requires c = contract-low _ _ c.in_ok-named_contract.ensures.refused
 
 pub returns : goal.returns
-returns c = search report-accepted
+returns c = report-accepted _ _ _ c.args.held.searched c.in_ok-named_contract.ensures.refused _ c.accepted_report.ensures

@@ -1,17 +1,15 @@
 -- `checked_total` answers the sum, and by the header what is unclaimed.
-use Rattle.ledger.proofs.Refusals.{header-there}
 use Rattle.signed.proofs.SignedDifferences.{signed-read}
 use Rattle.claim_calls.proofs.CallAnswers.{claimed-fits, sum_low, claimed-low, total-answered}
 use Rattle.claim_calls.proofs.checked_total.Goals as goal
 
-pub pence-claimed-requires : goal.pence-claimed-requires
-pence-claimed-requires c = search header-there
-
 pub overflow_mul-claimed : goal.overflow_mul-claimed
-overflow_mul-claimed c = record { fits = search claimed-fits }
+overflow_mul-claimed c = record { fits = claimed-fits _ _ _ c.requires _ c.pence-claimed.ensures }
 
 pub difference-requires : goal.difference-requires
-difference-requires c = search (sum_low, claimed-low)
+difference-requires c = (sum_low _ _ _ c.requires, claimed-low _ _ _ c.requires _ c.pence-claimed.ensures)
 
 pub returns : goal.returns
-returns c = let unclaimed = signed-read _ _ (record { sfits = c.difference.type_inv }) c.difference.ensures in search total-answered
+returns c =
+    let unclaimed = signed-read _ _ (record { sfits = c.difference.type_inv }) c.difference.ensures in
+    total-answered _ _ _ c.requires _ _ c.pence-claimed.ensures unclaimed
