@@ -3,6 +3,7 @@
 -- of rows, ledgers stored earlier, the price of every day, the accepted calls, numbers 15, 8 and 2, the ranges of a row and the largest bill, what an
 -- amend leaves, the facts held, every answer and demand 3, also from a stored ledger on, so that no such clause can leave its record. Tables of
 -- examples aren't asked for by themselves.
+use Rattle.std.specs.Prelude.{Option, Some, None, Result, Ok, Err}
 use mathlib.Core.Path.{◌≡◌, refl, ap, ◌∙◌}
 use mathlib.Core.Bool.{Bool, true, false, not, cond, ◌&&◌, ◌||◌}
 use lib.Dec.{leb, ltb, eqb}
@@ -17,7 +18,7 @@ use Rattle.basics.specs.Lists.{total, count, All}
 use Rattle.basics.specs.Integers.{minℤ, at_least_zero, sumℤ}
 use Rattle.fields.specs.Field.{field_at, set_field, AreBytes}
 use Rattle.amounts.specs.declared.Bill.{Bill}
-use Rattle.rates.specs.declared.Amendment.TheVariants.{Unamended, Amended}
+use Rattle.rates.specs.declared.Amendment.{Amendment}
 use Rattle.rates.specs.declared.Contract.{Contract}
 use Rattle.rates.specs.declared.Terms.{Terms}
 use Rattle.rates.specs.TermsTaken.{terms_for, crosses_end}
@@ -28,7 +29,6 @@ use Rattle.rates.specs.declared.Kind.TheVariants.{Fixed, Variable, Flexible, Ind
 use Rattle.rates.specs.declared.Class.{Class}
 use Rattle.rates.specs.declared.Class.TheVariants.{Baseline, Etii, QhsOld, QhsNew}
 use Rattle.rates.specs.declared.Certificate.{Certificate}
-use Rattle.rates.specs.declared.Certificate.TheVariants.{None}
 use Rattle.rates.specs.declared.Certificate.TheVariants as certificate
 use Rattle.rates.specs.Rates as Rates
 use Rattle.rates.specs.Rates.{least_term, part_of, class_rate, class_cap, entered_early, qhs_class, certified_class, class_of}
@@ -39,13 +39,13 @@ use Rattle.amounts.specs.Stretches.{Stretch, Cut, by_stretch, stretches_of}
 use Rattle.amounts.specs.EarlierAmount.{earlier_amount}
 use Rattle.model.specs.declared.Row.{Row}
 use Rattle.model.specs.declared.Answer.{Answer}
-use Rattle.model.specs.declared.Answer.TheVariants.{Refused, Claimed, Totalled}
+use Rattle.model.specs.declared.Answer.TheVariants.{Claimed, Totalled}
 use Rattle.model.specs.declared.Call.{Call}
 use Rattle.model.specs.declared.Request.{Request}
 use Rattle.model.specs.Codes.{is_fixed, is_flexible, is_amended, opening, certify, amend}
 use Rattle.model.specs.OpenContracts.{Contracts, contract_at, contract_of, is_open}
 use Rattle.model.specs.Book.{book_index, reference}
-use Rattle.model.specs.Calls.{CallWithBook, View, named, sharing, ends_after, requested_bill, values_of, customer_amount, claim_pence, ◌with◌}
+use Rattle.model.specs.Calls.{CallWithBook, View, named, sharing, ends_after, requested_bill, values_in, customer_amount, claim_pence, ◌with◌}
 use Rattle.model.specs.PresentRules.{bad_book, bad_number, not_amendable, bad_kind, bad_class, bad_days, bad_effective, bad_span, bad_amendment_days, bad_months, bad_amounts, bad_shares, no_price, bill_ok}
 use Rattle.model.specs.AcceptedCalls.{RightContractAndDays, RightNumbers}
 use Rattle.model.specs.NumberFifteen.{TwoMonthsGiven}
@@ -127,7 +127,7 @@ unfolding class_cap
 gas-caps S = (refl, refl, refl, refl)
 
 -- a day's class under each certificate
-pub class-of-none : (kind : Kind) (day : ℕ) → certified_class None kind day ≡ Baseline
+pub class-of-none : (kind : Kind) (day : ℕ) → certified_class certificate.None kind day ≡ Baseline
 class-of-none kind day = refl
 
 pub class-of-etii : (effective : ℕ) (kind : Kind) (day : ℕ) → certified_class (certificate.Etii effective) kind day ≡ cond (leb effective day) Etii Baseline
@@ -137,18 +137,18 @@ pub class-of-qhs : (effective : ℕ) (kind : Kind) (day : ℕ) → certified_cla
 class-of-qhs effective kind day = refl
 
 -- a fixed contract keeps both days, cert puts its class and day in place of the certificate, class 0 none, and amend adds the three days
-pub opened-fixed : (fuel fix entry : ℕ) → opening fuel 0 fix entry ≡ record { fuel = cond (eqb fuel 0) Electricity Gas; kind = Fixed fix entry; certificate = None; amendment = Unamended }
+pub opened-fixed : (fuel fix entry : ℕ) → opening fuel 0 fix entry ≡ record { fuel = cond (eqb fuel 0) Electricity Gas; kind = Fixed fix entry; certificate = certificate.None; amendment = None }
 unfolding opening
 opened-fixed fuel fix entry = refl
 
 pub certified-as : (k : Contract) (effective : ℕ)
-    → (certify k 0 effective ≡ record { fuel = k.fuel; kind = k.kind; certificate = None; amendment = k.amendment })
+    → (certify k 0 effective ≡ record { fuel = k.fuel; kind = k.kind; certificate = certificate.None; amendment = k.amendment })
     × (certify k 1 effective ≡ record { fuel = k.fuel; kind = k.kind; certificate = certificate.Etii effective; amendment = k.amendment })
     × (certify k 2 effective ≡ record { fuel = k.fuel; kind = k.kind; certificate = certificate.Qhs effective; amendment = k.amendment })
 unfolding certify
 certified-as k effective = (refl, refl, refl)
 
-pub amended-as : (k : Contract) (end fix entry : ℕ) → amend k end fix entry ≡ record { fuel = k.fuel; kind = k.kind; certificate = k.certificate; amendment = Amended end fix entry }
+pub amended-as : (k : Contract) (end fix entry : ℕ) → amend k end fix entry ≡ record { fuel = k.fuel; kind = k.kind; certificate = k.certificate; amendment = Some (record { original_end_day = end; price_fix_day = fix; entry_day = entry }) }
 unfolding amend
 amended-as k end fix entry = refl
 
@@ -162,24 +162,24 @@ module _ (k : Contract) where
   unfolding terms_for
   terms-with first = refl
 
-  pub terms-unamended : k.amendment ≡ Unamended → (first : ℕ) → terms_for k first ≡ with-kind k.kind
+  pub terms-unamended : k.amendment ≡ None → (first : ℕ) → terms_for k first ≡ with-kind k.kind
   terms-unamended e first = terms-with first ∙ ap with-kind (asked.terms_taken.unamended k first e)
 
-  module _ (end fix entry : ℕ) (e : k.amendment ≡ Amended end fix entry) (first : ℕ) where
-    pub terms-original : first ≤ end → terms_for k first ≡ with-kind k.kind
-    terms-original h = terms-with first ∙ ap with-kind (asked.terms_taken.original k end fix entry first e h)
+  module _ (amendment : Amendment) (e : k.amendment ≡ Some amendment) (first : ℕ) where
+    pub terms-original : first ≤ amendment.original_end_day → terms_for k first ≡ with-kind k.kind
+    terms-original h = terms-with first ∙ ap with-kind (asked.terms_taken.original k amendment first e h)
 
-    pub terms-amended : end < first → terms_for k first ≡ with-kind (Fixed fix entry)
-    terms-amended h = terms-with first ∙ ap with-kind (asked.terms_taken.amended k end fix entry first e h)
+    pub terms-amended : amendment.original_end_day < first → terms_for k first ≡ with-kind (Fixed amendment.price_fix_day amendment.entry_day)
+    terms-amended h = terms-with first ∙ ap with-kind (asked.terms_taken.amended k amendment first e h)
 
   pub terms-of-every-day : (first last day : ℕ) → crosses_end k.amendment first last ≡ false → first ≤ day → day ≤ last → terms_for k day ≡ terms_for k first
   terms-of-every-day = asked.terms_taken.every_day k
 
-pub none-crossed : (first last : ℕ) → crosses_end Unamended first last ≡ false
+pub none-crossed : (first last : ℕ) → crosses_end None first last ≡ false
 none-crossed first last = refl
 
-pub end-crossed : (end fix entry first last : ℕ) → crosses_end (Amended end fix entry) first last ≡ leb first end && ltb end last
-end-crossed end fix entry first last = refl
+pub end-crossed : (amendment : Amendment) (first last : ℕ) → crosses_end (Some amendment) first last ≡ leb first amendment.original_end_day && ltb amendment.original_end_day last
+end-crossed amendment first last = refl
 
 -- 16, 7 and 18 of amend: not fixed, or amended already; an end that is no day of the scheme, or a day after the last; a row of the contract that ends later
 pub amendable : (k : Contract) → not_amendable k ≡ not (is_fixed k.kind) || is_amended k.amendment
@@ -192,8 +192,8 @@ kinds-fixed fix entry = (refl, refl, refl, refl)
 pub kinds-flexible : (fix entry : ℕ) → (is_flexible (Fixed fix entry) ≡ false) × (is_flexible Variable ≡ false) × (is_flexible Flexible ≡ true) × (is_flexible Index ≡ false)
 kinds-flexible fix entry = (refl, refl, refl, refl)
 
-pub amended-already : (end fix entry : ℕ) → (is_amended Unamended ≡ false) × (is_amended (Amended end fix entry) ≡ true)
-amended-already end fix entry = (refl, refl)
+pub amended-already : (amendment : Amendment) → (is_amended None ≡ false) × (is_amended (Some amendment) ≡ true)
+amended-already amendment = (refl, refl)
 
 pub amendment-days : (end fix entry : ℕ) → bad_amendment_days end fix entry ≡ not (leb 486 end && leb end 851) || (ltb 851 fix || ltb 851 entry)
 unfolding bad_amendment_days
@@ -375,7 +375,7 @@ any-two x xs o = o
 pub amounts-by-day : (b : List ℕ) → Formed b → All (ByDay (facts b).contracts) (facts b).rows
 amounts-by-day = asked.amounts_kept.by_day
 
-pub misrated-refused : (b : List ℕ) → (All (ByDay (facts b).contracts) (facts b).rows → ⊥) → (c : CallWithBook) → machine.answer b c ≡ Refused 2
+pub misrated-refused : (b : List ℕ) → (All (ByDay (facts b).contracts) (facts b).rows → ⊥) → (c : CallWithBook) → machine.answer b c ≡ Err 2
 misrated-refused = asked.amounts_kept.refused
 
 pub misrated-unchanged : (b : List ℕ) → (All (ByDay (facts b).contracts) (facts b).rows → ⊥) → (c : CallWithBook) → machine.step b c ≡ b
@@ -568,7 +568,7 @@ no-larger-row = asked.larger_rows_were_stored.none
 
 -- ---- number 2
 
-pub number-two-refused : (b : List ℕ) → (Formed b → ⊥) → (c : CallWithBook) → machine.answer b c ≡ Refused 2
+pub number-two-refused : (b : List ℕ) → (Formed b → ⊥) → (c : CallWithBook) → machine.answer b c ≡ Err 2
 number-two-refused = asked.number_two_first.refused
 
 pub number-two-unchanged : (b : List ℕ) → (Formed b → ⊥) → (c : CallWithBook) → machine.step b c ≡ b
@@ -582,7 +582,7 @@ number-two-in-no-stored-ledger = asked.stored_ledgers_answer.well_formed
 
 -- ---- an amend answers no numbers, alters no row, and changes no bill's part of due
 
-pub amend-answers : (b : List ℕ) (c end fix entry : ℕ) (book : List ℕ) → values_of (machine.answer b (Call.Amend c end fix entry with book)) ≡ []
+pub amend-answers : (b : List ℕ) (c end fix entry : ℕ) (book : List ℕ) → values_in (machine.answer b (Call.Amend c end fix entry with book)) ≡ []
 amend-answers = asked.amend_alters_no_row.answers
 
 pub amend-rows : (b : List ℕ) → Formed b → (c end fix entry : ℕ) (book : List ℕ) → (facts (machine.step b (Call.Amend c end fix entry with book))).rows ≡ (facts b).rows
@@ -610,7 +610,7 @@ module _ (territory : ℕ) (either : territory ≤ 1) (h : List CallWithBook) wh
   abbrev sheet : Sheet
   sheet = sheet_after rules territory h
 
-  abbrev answers : List Answer
+  abbrev answers : List (Result Answer ℕ)
   answers = answers_to machine territory h
 
   abbrev left : Ledger
@@ -671,13 +671,13 @@ module _ (territory : ℕ) (either : territory ≤ 1) (h : List CallWithBook) wh
   pub customers : sumℤ customer_amount answers ≡ pos (Sheet.due rules sheet)
   customers = balanced.customers
 
-  pub total-next : machine.answer (state_after machine territory h) (Call.Total with []) ≡ Totalled (Sheet.due rules sheet) unclaimed
+  pub total-next : machine.answer (state_after machine territory h) (Call.Total with []) ≡ Ok (Totalled (Sheet.due rules sheet) unclaimed)
   total-next = balanced.total
 
   pub claims : pos 10000 *ℤ sumℤ claim_pence answers +ℤ unclaimed ≡ pos (Sheet.due rules sheet)
   claims = balanced.claims
 
-  pub claimed-last : (before : List Answer) (pence : ℤ) (rest : ℕ) → answers ≡ before ++ (Claimed pence rest ∷ []) → (u : ℕ) × (unclaimed ≡ pos u) × (u < 10000)
+  pub claimed-last : (before : List (Result Answer ℕ)) (pence : ℤ) (rest : ℕ) → answers ≡ before ++ (Ok (Claimed pence rest) ∷ []) → (u : ℕ) × (unclaimed ≡ pos u) × (u < 10000)
   claimed-last = balanced.claimed
 
   pub held : (b : Bill) → Memᴰ b sheet.bills → Memᴰ {A = Row} (record { bill = b; amount = part b }) left.rows
@@ -691,13 +691,13 @@ module _ (territory : ℕ) (either : territory ≤ 1) (h : List CallWithBook) wh
   -- a claim called next that the sheet doesn't turn down leaves 0 to 9,999
   pub claim-next : refusal rules (view sheet) (Call.Claim with []) ≡ 0 →
       let claimed = h ++ ((Call.Claim with []) ∷ []) in
-      (u : ℕ) × (machine.answer (state_after machine territory claimed) (Call.Total with []) ≡ Totalled (Sheet.due rules (sheet_after rules territory claimed)) (pos u)) × (u < 10000)
+      (u : ℕ) × (machine.answer (state_after machine territory claimed) (Call.Total with []) ≡ Ok (Totalled (Sheet.due rules (sheet_after rules territory claimed)) (pos u))) × (u < 10000)
   claim-next = asked.demand_three.last_claim territory either h
 
 -- ---- of any well-formed ledger: where it balances with the answers to its earlier calls, it does so after every list of calls; each answer is the
 -- sheet's
 
-module _ (b : List ℕ) (formed : Formed b) (earlier : List Answer) (h : List CallWithBook) where
+module _ (b : List ℕ) (formed : Formed b) (earlier : List (Result Answer ℕ)) (h : List CallWithBook) where
   abbrev stored : Sheet
   stored = record { territory = (facts b).territory; contracts = (facts b).contracts; bills = map (λ x. x.bill) (facts b).rows; claims = (facts b).claims }
 
