@@ -5,6 +5,7 @@ use mathlib.Core.List.{List}
 use Prim.Native.Nat.{ℕ, ◌^◌, ◌<◌}
 use native.Mathlib.Omega.{arith}
 use lib.Dec.{eqb}
+use lib.ListN.{length}
 use Rattle.basics.proofs.Tests.{yes-eq, no_eq}
 use Rattle.records.specs.Edits.{replace_at}
 use Rattle.records.specs.OneSlot.{record_bytes}
@@ -16,7 +17,7 @@ use Rattle.amounts.proofs.AmountBounds.{amount-bits}
 use Rattle.model.specs.declared.Row.{Row}
 use Rattle.model.specs.Ledger.{with_amount, priced, rerated}
 use Rattle.layout.specs.PresentLayout.{row_record}
-use Rattle.layout.specs.Offsets.{row_start, row_length}
+use Rattle.layout.specs.Offsets.{ledger_length, row_start, row_length}
 use Rattle.layout.specs.Present.{row_at, rules}
 use Rattle.layout.proofs.Present.{row-in-slot}
 use Rattle.contract_calls.specs.Rerating.{RowInSlot, new_amount, RowRerated}
@@ -57,23 +58,23 @@ module _ (b : List ℕ) (i contract : ℕ) (certified : Contract) (slot : RowInS
   new a rated = own_row contract certified (row_at b i) slot.own ∙ ap (with_amount (row_at b i)) (sym (rw read at rated))
 
   -- its amount stays
-  row_stays : x.amount ≡ by_terms amount certified x.bill → RowRerated contract certified b i (record { old = x.amount; new = x.amount; changed = 0 }) b
-  row_stays same =
+  row_stays : length b ≡ ledger_length → x.amount ≡ by_terms amount certified x.bill → RowRerated contract certified b i (record { old = x.amount; new = x.amount; changed = 0 }) b
+  row_stays long same =
       let is : rerated rules contract certified (row_at b i) ≡ row_at b i = new x.amount same ∙ ap (with_amount (row_at b i)) is-old in
       record {
         old = is-old;
         new = ap (λ (y : Row). y.amount) (read ∙ sym is);
         changed = unchanged _ _ (ap (λ (y : Row). y.amount) is);
-        left = sym (ap (λ (bytes : List ℕ). replace_at (row_start i) bytes b) (ap (record_bytes row_record) (is ∙ row-in-slot b i) ∙ slot.packed) ∙ replaced-same (row_start i) row_length b (omega (arith, slot.long, slot.inside)));
+        left = sym (ap (λ (bytes : List ℕ). replace_at (row_start i) bytes b) (ap (record_bytes row_record) (is ∙ row-in-slot b i) ∙ slot.packed) ∙ replaced-same (row_start i) row_length b (omega (arith, long, slot.inside)));
       }
 
-  pub shares-stay : (h : Bool) → h ≡ has_shares x.bill → h ≡ true → RowRerated contract certified b i (record { old = x.amount; new = x.amount; changed = 0 }) b
-  shares-stay h e some = row_stays (rw read (sym (slot.set_aside (rw read at (sym e ∙ some)))))
+  pub shares-stay : length b ≡ ledger_length → (h : Bool) → h ≡ has_shares x.bill → h ≡ true → RowRerated contract certified b i (record { old = x.amount; new = x.amount; changed = 0 }) b
+  shares-stay long h e some = row_stays long (rw read (sym (slot.set_aside (rw read at (sym e ∙ some)))))
 
   -- its amount under the certified contract is a
   module _ (a : ℕ) (rated : a ≡ by_terms amount certified x.bill) where
-    pub amount-stays : a ≡ x.amount → RowRerated contract certified b i (record { old = x.amount; new = x.amount; changed = 0 }) b
-    amount-stays same = row_stays (sym same ∙ rated)
+    pub amount-stays : length b ≡ ledger_length → a ≡ x.amount → RowRerated contract certified b i (record { old = x.amount; new = x.amount; changed = 0 }) b
+    amount-stays long same = row_stays long (sym same ∙ rated)
 
     pub new-amount-low : a < 2 ^ 50
     new-amount-low = omega (arith, rated, amount-bits (terms_for certified x.bill.first) x.bill bill-rateable)

@@ -1,4 +1,5 @@
 -- The rows of a ledger re-rated one after the other. Assumes nothing.
+use Rattle.std.specs.Prelude.{Option}
 use mathlib.Core.Path.{◌≡◌, refl, sym, ap, ap₂, ◌∙◌, subst}
 use mathlib.Core.Logic.{◌≢◌}
 use mathlib.Core.Bool.{true, cond}
@@ -101,15 +102,15 @@ module _ (contract : ℕ) (certified : Contract) where
 row_kept : (b : List ℕ) (rows i : ℕ) → Searched b rows → i < rows → RowOk rules (facts b).contracts (row_at b i)
 row_kept b rows i s h = rw (row_read b rows i s h (row_at b i) refl) (all-at (RowOk rules (facts b).contracts) (facts b).rows (row_at b i) (facts-kept b s.formed).rows i (row-there b rows i s h))
 
--- the pass at row i of the ledger b₀: the bytes, the sums of the old and the new amounts and how many changed
-pub record Passed (b₀ : List ℕ) (contract : ℕ) (certified : Contract) (i : ℕ) (b : List ℕ) (old new changed : ℕ) : Type 0 where
+-- the pass at row i of the ledger b₀: the bytes, and what was found
+pub record Passed (b₀ : List ℕ) (contract : ℕ) (certified : Contract) (i : ℕ) (b : List ℕ) (sums : Rerated) : Type 0 where
   pub long : length b ≡ ledger_length
   pub from : place_of (reaches contract 0) (facts b₀).rows ≤ i
   pub left : b ≡ bytes (ledger_with_rows (facts b₀) (first_mapped (rerated rules contract certified) i (facts b₀).rows))
   pub rest : drop (row_start i) b ≡ drop (row_start i) b₀
-  pub olds : SummedTo (for_contract contract (λ x. x.amount)) (facts b₀).rows i old
-  pub news : SummedTo (for_contract contract (new_amount contract certified)) (facts b₀).rows i new
-  pub changes : SummedTo (λ x. cond (amount_changes contract certified x) 1 0) (facts b₀).rows i changed
+  pub olds : SummedTo (for_contract contract (λ x. x.amount)) (facts b₀).rows i sums.old
+  pub news : SummedTo (for_contract contract (new_amount contract certified)) (facts b₀).rows i sums.new
+  pub changes : SummedTo (λ x. cond (amount_changes contract certified x) 1 0) (facts b₀).rows i sums.changed
 
 module _ (b₀ : List ℕ) (rows contract : ℕ) (certified : Contract) (t : Rerateable b₀ rows contract certified) where
   abbrev f : Row → Row
@@ -121,21 +122,18 @@ module _ (b₀ : List ℕ) (rows contract : ℕ) (certified : Contract) (t : Rer
   abbrev s : Searched b₀ rows
   s = t.searched
 
-  pub none_passed : (i : ℕ) → i ≡ place_of (reaches contract 0) (facts b₀).rows → Passed b₀ contract certified i b₀ 0 0 0
-  none_passed i e = record {
+  pub none_passed : (i : ℕ) → i ≡ place_of (reaches contract 0) (facts b₀).rows → (sums : Rerated) → (sums.old ≡ 0) × ((sums.new ≡ 0) × (sums.changed ≡ 0)) → Passed b₀ contract certified i b₀ sums
+  none_passed i e sums z = record {
     long = formed-length b₀ s.formed;
     from = omega arith;
     left = sym (ap (λ (ys : List Row). bytes (ledger_with_rows (facts b₀) ys)) (ap (λ (n : ℕ). first_mapped f n xs) e ∙ same-before contract xs (spans b₀ rows s) (apart b₀ rows s) f (other_row contract certified)) ∙ repacked b₀ s.formed);
     rest = refl;
-    olds = summed-begins b₀ rows s contract _ (others-weightless contract (λ x. x.amount)) i e;
-    news = summed-begins b₀ rows s contract _ (others-weightless contract (new_amount contract certified)) i e;
-    changes = summed-begins b₀ rows s contract _ (others-unchanged contract certified) i e;
+    olds = rw z.0 (summed-begins b₀ rows s contract _ (others-weightless contract (λ x. x.amount)) i e);
+    news = rw z.1.0 (summed-begins b₀ rows s contract _ (others-weightless contract (new_amount contract certified)) i e);
+    changes = rw z.1.1 (summed-begins b₀ rows s contract _ (others-unchanged contract certified) i e);
   }
 
-  module _ (i : ℕ) (b : List ℕ) (old new changed : ℕ) (p : Passed b₀ contract certified i b old new changed) where
-    pub passed_length : length b ≡ length b₀
-    passed_length = p.long ∙ sym (formed-length b₀ s.formed)
-
+  module _ (i : ℕ) (b : List ℕ) (sums : Rerated) (p : Passed b₀ contract certified i b sums) where
     module _ (end : ℕ) (ends : end ≡ place_of (reaches (contract + 1) 0) (facts b₀).rows) where
       -- ---- one row more
 
@@ -157,12 +155,11 @@ module _ (b₀ : List ℕ) (rows contract : ℕ) (certified : Contract) (t : Rer
         stays some =
             let first : ℕ = (row_at b₀ i).bill.first in
             let k = contract_at (contracts b₀) contract in
-            amount-set-aside (terms_for certified first) (terms_for k first) (row_at b₀ i).bill some t.fuel (ap₂ (λ (a : Amendment) (kind : Kind). kind_taken a kind first) t.amendment t.kind)
+            amount-set-aside (terms_for certified first) (terms_for k first) (row_at b₀ i).bill some t.fuel (ap₂ (λ (a : Option Amendment) (kind : Kind). kind_taken a kind first) t.amendment t.kind)
             ∙ ap (λ (c : ℕ). by_terms amount (contract_at (contracts b₀) c) (row_at b₀ i).bill) (sym own) ∙ sym kept.part
 
         pub next-slot : RowInSlot b i contract certified
         next-slot = record {
-          long = p.long;
           inside = row_inside b₀ rows i s held;
           packed = subst (λ (d : List ℕ). IsPacked row_record (take row_length d)) (sym p.rest) (row-packed b₀ rows i s held);
           own = rw row own;
@@ -177,7 +174,7 @@ module _ (b₀ : List ℕ) (rows contract : ℕ) (certified : Contract) (t : Rer
           for-own : (w : Row → ℕ) → for_contract contract w (row_at b₀ i) ≡ w (row_at b₀ i)
           for-own w = rw (yes-eq (row_at b₀ i).bill.contract contract own)
 
-          pub row-passed : Passed b₀ contract certified (i + 1) after (old + r.old) (new + r.new) (changed + r.changed)
+          pub row-passed : Passed b₀ contract certified (i + 1) after (record { old = sums.old + r.old; new = sums.new + r.new; changed = sums.changed + r.changed })
           row-passed =
               let x : Row = row_at b₀ i in
               let at : ℕ = row_start i in
@@ -199,22 +196,21 @@ module _ (b₀ : List ℕ) (rows contract : ℕ) (certified : Contract) (t : Rer
                 changes = rw (u.changed, row) (next-sum p.changes);
               }
 
-          pub old-fits : old + r.old < 2 ^ 64
+          pub old-fits : sums.old + r.old < 2 ^ 64
           old-fits = omega (arith, summed-most row-passed.olds, old-sum-most contract certified b₀ s.formed)
 
-          pub new-fits : new + r.new < 2 ^ 64
+          pub new-fits : sums.new + r.new < 2 ^ 64
           new-fits = omega (arith, summed-most row-passed.news, new-sum-most contract certified b₀ s.formed)
 
-          pub changed-fits : changed + r.changed < 2 ^ 32
+          pub changed-fits : sums.changed + r.changed < 2 ^ 32
           changed-fits = omega (arith, summed-most row-passed.changes, bounds.count_low (facts-kept b₀ s.formed) (amount_changes contract certified))
 
       -- ---- all rows of the contract
 
-      pub all-passed : end ≤ i → RowsRerated contract certified b₀ (record { old = old; new = new; changed = changed }) b
+      pub all-passed : end ≤ i → RowsRerated contract certified b₀ sums b
       all-passed h = record {
         old = summed-ends b₀ rows s contract _ (others-weightless contract (λ x. x.amount)) i end ends h p.olds;
         new = summed-ends b₀ rows s contract _ (others-weightless contract (new_amount contract certified)) i end ends h p.news;
         changed = summed-ends b₀ rows s contract _ (others-unchanged contract certified) i end ends h p.changes;
         left = p.left ∙ ap (λ (ys : List Row). bytes (ledger_with_rows (facts b₀) ys)) (same_after contract xs (spans b₀ rows s) (apart b₀ rows s) f (other_row contract certified) i (omega arith));
-        long = p.long;
       }

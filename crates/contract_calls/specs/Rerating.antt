@@ -1,6 +1,6 @@
 -- Document 01, "Calls": cert re-rates the contract's rows. What is needed of a row's slot, and what is found and left of one row and of
 -- all. Assumes nothing.
-use Rattle.std.specs.Prelude.{◌≡◌, Bool, true, not, cond, List, [], map, ℕ, ◌<◌, eqb, length}
+use Rattle.std.specs.Prelude.{◌≡◌, Bool, true, not, cond, List, map, ℕ, ◌<◌, eqb}
 use Rattle.limits.specs.Limits.{contract_count, row_count}
 use Rattle.basics.specs.Lists.{total, count}
 use Rattle.records.specs.Edits.{replace_at}
@@ -8,21 +8,12 @@ use Rattle.records.specs.OneSlot.{record_bytes, IsPacked}
 use Rattle.rates.specs.declared.Contract.{Contract}
 use Rattle.amounts.specs.Amounts.{has_shares, amount, Rateable, by_terms}
 use Rattle.model.specs.declared.Row.{Row}
-use Rattle.model.specs.declared.Call.{Call}
-use Rattle.model.specs.Calls.{◌with◌}
-use Rattle.model.specs.Rules.{refusal}
 use Rattle.model.specs.OpenContracts.{contract_at}
 use Rattle.model.specs.Ledger.{of_contract, rerated, ledger_with_rows}
 use Rattle.layout.specs.PresentLayout.{row_record}
-use Rattle.layout.specs.Offsets.{ledger_length, row_start, row_part}
+use Rattle.layout.specs.Offsets.{row_start, row_part}
 use Rattle.layout.specs.Present.{rules, facts, contracts, bytes, row_at, Searched}
-use Rattle.ledger.specs.Answered.{view_of}
 use Rattle.contract_calls.specs.declared.rerating.Rerated.{Rerated}
-
--- a well-formed ledger with that many rows, and a cert that nothing turns down
-pub record Certifiable (b : List ℕ) (rows contract class effective : ℕ) : Type 0 where
-  pub searched : Searched b rows
-  pub accepted : 0 ≡ refusal rules (view_of b) (Call.Cert contract class effective with [])
 
 -- a well-formed ledger with that many rows, the number of a contract, and a contract that differs from that one in the certificate alone
 pub record Rerateable (b : List ℕ) (rows contract : ℕ) (certified : Contract) : Type 0 where
@@ -34,7 +25,6 @@ pub record Rerateable (b : List ℕ) (rows contract : ℕ) (certified : Contract
 
 -- slot i holds a row of the contract that can be rated, and whose amount stays under the certified contract where it has shares
 pub record RowInSlot (b : List ℕ) (i contract : ℕ) (certified : Contract) : Type 0 where
-  pub long : length b ≡ ledger_length
   pub inside : i < row_count
   pub packed : IsPacked row_record (row_part b i)
   pub own : (row_at b i).bill.contract ≡ contract
@@ -63,4 +53,3 @@ module _ (contract : ℕ) (certified : Contract) where
     pub new : found.new ≡ total (λ x. cond (of_contract contract x) (new_amount x) 0) (facts b).rows
     pub changed : found.changed ≡ count amount_changes (facts b).rows
     pub left : after ≡ bytes (ledger_with_rows (facts b) (map (rerated rules contract certified) (facts b).rows))
-    pub long : length after ≡ ledger_length

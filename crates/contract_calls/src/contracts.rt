@@ -6,6 +6,7 @@ use rates::{Amendment, Certificate, Contract};
 use rules::codes::{certificate_of, fuel_of, kind_of};
 
 // A contract that is opened: its fuel, kind and days, without a certificate and unamended.
+#[tactic(auto, unfolding(model::specs::Codes::opening))]
 pub fn opening(fuel: u32, kind: u32, price_fix_day: u32, entry_day: u32) -> Contract
     ensures { result ≡ opening fuel kind price_fix_day entry_day }
 {
@@ -13,45 +14,28 @@ pub fn opening(fuel: u32, kind: u32, price_fix_day: u32, entry_day: u32) -> Cont
         fuel: fuel_of(fuel),
         kind: kind_of(kind, price_fix_day, entry_day),
         certificate: Certificate::None,
-        amendment: Amendment::Unamended,
+        amendment: None,
     }
 }
 
 // A contract with another certificate in place of its own; class 0 leaves none.
+#[tactic(auto, unfolding(model::specs::Codes::certify))]
 pub fn certify(contract: Contract, class: u32, effective_day: u32) -> Contract
     ensures { result ≡ certify contract class effective_day }
 {
-    let fuel = contract.fuel;
-    let kind = contract.kind;
-    let amendment = contract.amendment;
     Contract {
-        fuel,
-        kind,
         certificate: certificate_of(class, effective_day),
-        amendment,
+        ..contract
     }
 }
 
 // A contract with an amendment.
-pub fn amended(
-    contract: Contract,
-    original_end_day: u32,
-    price_fix_day: u32,
-    entry_day: u32,
-) -> Contract
-    ensures { result ≡ amend contract original_end_day price_fix_day entry_day }
+#[tactic(auto, unfolding(model::specs::Codes::amend))]
+pub fn amended(contract: Contract, amendment: Amendment) -> Contract
+    ensures { result ≡ amend contract amendment.original_end_day amendment.price_fix_day amendment.entry_day }
 {
-    let fuel = contract.fuel;
-    let kind = contract.kind;
-    let certificate = contract.certificate;
     Contract {
-        fuel,
-        kind,
-        certificate,
-        amendment: Amendment::Amended {
-            original_end_day,
-            price_fix_day,
-            entry_day,
-        },
+        amendment: Some(amendment),
+        ..contract
     }
 }

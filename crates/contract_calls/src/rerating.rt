@@ -2,11 +2,12 @@
 ghost use Rattle.contract_calls.specs.Rerating.{Rerateable, RowInSlot, RowRerated, RowsRerated};
 
 use edits::replace_amount;
-use ledger::rows::{first_reaching, row_at};
+use layout::LEDGER_LENGTH;
+use ledger::rows::{HeldRows, row_at};
 use rates::Contract;
 
 // What re-rating finds: the sums of the old and of the new amounts, and how many of the amounts changed.
-#[derive(Clone, Copy)]
+#[derive(Clone, Copy, Debug, Default, PartialEq, Eq)]
 pub struct Rerated {
     pub old: u64,
     pub new: u64,
@@ -14,51 +15,58 @@ pub struct Rerated {
 }
 
 // Re-rates row i, which is a row of the contract. One with shares keeps its amount: the certificate is set aside.
-fn rerate_row(b: &mut [u8], i: usize, contract: u32, certified: Contract) -> Rerated
+fn rerate_row(
+    b: &mut [u8; LEDGER_LENGTH],
+    i: usize,
+    contract: u32,
+    certified: Contract,
+) -> Rerated
     requires { RowInSlot b.old i contract certified }
     ensures { RowRerated contract certified b.old i result b.new }
 {
     let row = row_at(b, i);
-    let bill = row.bill;
-    if amounts::has_shares(bill) {
-        return Rerated {
-            old: row.amount,
-            new: row.amount,
-            changed: 0,
-        };
+    let kept = Rerated {
+        old: row.amount,
+        new: row.amount,
+        changed: 0,
+    };
+    if row.bill.has_shares() {
+        return kept;
     }
-    let amount = amounts::whole_amount(certified, bill);
+    let amount = amounts::whole_amount(certified, row.bill);
     if amount == row.amount {
-        return Rerated {
-            old: row.amount,
-            new: row.amount,
-            changed: 0,
-        };
+        return kept;
     }
     replace_amount(b, i, amount);
     Rerated {
-        old: row.amount,
         new: amount,
         changed: 1,
+        ..kept
     }
 }
 
 // Re-rates the rows of the contract, which stand together.
-pub fn rerate_rows(b: &mut [u8], rows: usize, contract: u32, certified: Contract) -> Rerated
+pub fn rerate_rows(
+    b: &mut [u8; LEDGER_LENGTH],
+    rows: usize,
+    contract: u32,
+    certified: Contract,
+) -> Rerated
     requires { Rerateable b.old rows contract certified }
     ensures { RowsRerated contract certified b.old result b.new }
 {
-    let mut i = first_reaching(b, rows, contract, 0);
-    let end = first_reaching(b, rows, contract + 1, 0);
-    let mut old: u64 = 0;
-    let mut new: u64 = 0;
-    let mut changed: u32 = 0;
-    while i < end {
+    let held = HeldRows {
+        bytes: b,
+        count: rows,
+    };
+    let first = held.first_reaching(contract, 0);
+    let end = held.first_reaching(contract + 1, 0);
+    let mut sums = Rerated::default();
+    for i in first..end {
         let row = rerate_row(b, i, contract, certified);
-        old = old + row.old;
-        new = new + row.new;
-        changed = changed + row.changed;
-        i += 1;
+        sums.old += row.old;
+        sums.new += row.new;
+        sums.changed += row.changed;
     }
-    Rerated { old, new, changed }
+    sums
 }
