@@ -1,4 +1,4 @@
--- What is read of an input has the transcript of the whole. Assumes nothing.
+-- What is read of an input has the transcript of the whole, and so `run` prints what it owes. Assumes nothing.
 use Rattle.std.proofs.Common.{◌≡◌, ℕ, ◌<◌, ◌⊎◌, inl, inr, List, [], ◌++◌, length, take, None, Some, IfSome, Result, Ok, Err, OnOk, OnErr, MatchResult, refl, sym, ap, ◌∙◌, subst, arith, append-nil, length-append, take_all}
 use Rattle.std.proofs.lemmas.Bool.{lt-ltb, cases_lt}
 use Rattle.std.specs.declared.option.Option.{Option}

@@ -13,7 +13,7 @@ pub fn read_input<R: Read>(reader: &mut R, buffer: &mut [u8]) -> io::Result<usiz
     ensures within { ReadWithin (length buffer.new) result }
     ensures in_order { ReadInOrder (R.remaining reader.old) (R.remaining reader.new) buffer.new result }
 {
-    // std's own loops won't do: `read_exact` doesn't tell how many bytes an input that ends early gave, and `read_to_end` fills a vector.
+    // A loop of its own: std's `read_exact` doesn't tell how many bytes an input that ends early gave, and its `read_to_end` fills a vector.
     let mut length = 0;
     while length < buffer.len() {
         match reader.read(&mut buffer[length..])? {
