@@ -1,3 +1,2 @@
--- Laws of the program's arrays, and of what it reads and prints.
-pub mod Arrays
+-- Laws of what the program reads and prints.
 pub mod Runs

@@ -13,5 +13,5 @@ AppendsStart before after text = (count : ℕ) × Appends before after (take cou
 -- all of the input's transcript is written; of an input that can't be read to its end nothing is; where a write fails, a start of the transcript
 abbrev pub PrintsTranscript : {A : Type 0} → (input before after : Option (List ℕ)) → Result A Failure → Type 0
 PrintsTranscript input before after (Ok x) = IfSome input (λ bytes. Appends before after (transcript bytes))
-PrintsTranscript input before after (Err Reading) = Keeps before after
+PrintsTranscript input before after (Err (Reading e)) = Keeps before after
 PrintsTranscript input before after (Err (Writing e)) = IfSome input (λ bytes. AppendsStart before after (transcript bytes))

@@ -7,11 +7,12 @@ ghost use Rattle.std.specs.Io.KnownBytes.{Appends};
 ghost use Rattle.session.specs.Transcript.{most_input, most_output};
 ghost use Rattle.ebds.specs.Run.{AppendsStart, PrintsTranscript};
 
-use input::{Input, read_input};
+use input::read_input;
 use session::{MOST_INPUT, MOST_OUTPUT};
-use std::io;
+use std::fmt::{Display, Formatter};
 use std::io::{ErrorKind, Read, Write};
 use std::process::ExitCode;
+use std::{fmt, io};
 
 // The status that a shell gives of a program which a closed pipe has ended.
 const CLOSED_PIPE: u8 = 128 + 13;
@@ -20,23 +21,28 @@ const CLOSED_PIPE: u8 = 128 + 13;
 #[derive(Drop)]
 pub enum Failure {
     // Read the input.
-    Reading,
+    Reading(io::Error),
     // Write the output.
     Writing(io::Error),
 }
 
-// Room for one byte more than the program reads, so that a longer input is seen.
-fn input_room() -> [u8; MOST_INPUT + 1]
-    ensures { most_input + 1 ≡ length result }
-{
-    [0; MOST_INPUT + 1]
+impl Display for Failure {
+    fn fmt<W: fmt::Write>(&self, f: &mut Formatter<W>) -> fmt::Result {
+        f.write_str(match self {
+            Failure::Reading(_) => "standard input can't be read",
+            Failure::Writing(_) => "standard output can't be written",
+        })
+    }
 }
 
-// Room for the longest output.
-fn output_room() -> [u8; MOST_OUTPUT]
-    ensures { most_output ≡ length result }
+// Room for one byte more than the program reads, so that a longer input is seen.
+const INPUT_ROOM: usize = MOST_INPUT + 1;
+
+// A function of its own: where `main` makes arrays of these sizes itself, its check runs out of stack.
+fn room<const N: usize>() -> [u8; N]
+    ensures { length result ≡ N }
 {
-    [0; MOST_OUTPUT]
+    [0; N]
 }
 
 // Writes all of the bytes, or stops at the first write that takes none or fails.
@@ -44,13 +50,13 @@ fn write_output<W: Write>(writer: &mut W, bytes: &[u8]) -> io::Result<()>
     ensures all { OnOk result (Appends (W.contents writer.old) (W.contents writer.new) bytes.now) }
     ensures start { OnErr result (AppendsStart (W.contents writer.old) (W.contents writer.new) bytes.now) }
 {
-    let mut written: usize = 0;
-    while written < bytes.len() {
-        let more = writer.write(&bytes[written..])?;
-        if more == 0 {
-            return Err(io::Error::from(ErrorKind::WriteZero));
+    // A loop of its own: std's `write_all` doesn't tell what is written where it fails.
+    let mut rest = bytes;
+    while !rest.is_empty() {
+        match writer.write(rest)? {
+            0 => return Err(io::Error::from(ErrorKind::WriteZero)),
+            taken => rest = &rest[taken..],
         }
-        written += more;
     }
     Ok(())
 }
@@ -66,28 +72,23 @@ pub fn run<R: Read, W: Write>(
     requires output_fits { most_output ≤ length out.old }
     ensures { PrintsTranscript (R.remaining reader.old) (W.contents writer.old) (W.contents writer.new) result }
 {
-    let Input::Read(length) = read_input(reader, input) else {
-        return Err(Failure::Reading);
-    };
+    let length = read_input(reader, input).map_err(Failure::Reading)?;
     let written = session::session(&input[..length], out);
-    match write_output(writer, &out[..written]) {
-        Ok(()) => Ok(()),
-        Err(error) => Err(Failure::Writing(error)),
-    }
+    write_output(writer, &out[..written]).map_err(Failure::Writing)
 }
 
 // Where standard input or output fails it says so; where whoever read the output has closed the pipe it ends without a word.
 fn main(rt: HostRuntime) -> ExitCode {
-    let mut input = input_room();
-    let mut out = output_room();
-    let message = match run(&mut rt.stdin(), &mut rt.stdout(), &mut input, &mut out) {
-        Ok(()) => return ExitCode::SUCCESS,
-        Err(Failure::Reading) => "ebds: standard input can't be read\n",
+    let mut input = room::<INPUT_ROOM>();
+    let mut out = room::<MOST_OUTPUT>();
+    match run(&mut rt.stdin(), &mut rt.stdout(), &mut input, &mut out) {
+        Ok(()) => ExitCode::SUCCESS,
         Err(Failure::Writing(error)) if error.kind() == ErrorKind::BrokenPipe => {
-            return ExitCode::from(CLOSED_PIPE);
+            ExitCode::from(CLOSED_PIPE)
         }
-        Err(Failure::Writing(_)) => "ebds: standard output can't be written\n",
-    };
-    let _ = rt.eprint(message);
-    ExitCode::SUCCESS
+        Err(failure) => {
+            let _ = eprintln!(rt; "ebds: {failure}");
+            ExitCode::SUCCESS
+        }
+    }
 }

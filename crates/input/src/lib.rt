@@ -5,39 +5,28 @@
 ghost use Rattle.std.specs.Prelude.{length};
 ghost use Rattle.input.specs.Reading.{ReadWithin, ReadInOrder};
 
+use std::io;
 use std::io::Read;
 
-// What the input came to.
-#[derive(Drop)]
-pub enum Input {
-    // So many bytes, at the start of the buffer.
-    Read(usize),
-    // A read failed.
-    Failed,
-}
-
-// Reads until the buffer is full, the input ends or a read fails.
-pub fn read_input<R: Read>(reader: &mut R, buffer: &mut [u8]) -> Input
+// Reads until the buffer is full, the input ends or a read fails. It gives how many bytes it read, at the start of the buffer, or the error of the read.
+pub fn read_input<R: Read>(reader: &mut R, buffer: &mut [u8]) -> io::Result<usize>
     ensures within { ReadWithin (length buffer.new) result }
     ensures in_order { ReadInOrder (R.remaining reader.old) (R.remaining reader.new) buffer.new result }
 {
-    let mut length: usize = 0;
+    // A loop of its own: std's `read_exact` doesn't tell how many bytes an input that ends early gave, and its `read_to_end` fills a vector.
+    let mut length = 0;
     while length < buffer.len() {
-        let Ok(more) = reader.read(&mut buffer[length..]) else {
-            return Input::Failed;
-        };
-        if more == 0 {
-            return Input::Read(length);
+        match reader.read(&mut buffer[length..])? {
+            0 => break,
+            more => length += more,
         }
-        length += more;
     }
-    Input::Read(length)
+    Ok(length)
 }
 
 #[cfg(test)]
 mod tests {
     use super::*;
-    use std::io;
     use std::io::ErrorKind;
 
     // Gives at most so many bytes at once, and then fails.
@@ -58,21 +47,22 @@ mod tests {
     }
 
     #[test]
-    fn an_end_and_a_failure_are_told_apart(rt: HostRuntime) {
+    fn an_end_and_a_failure_are_told_apart(rt: HostRuntime) -> io::Result<()> {
         let mut buffer = [0u8; 5];
         let mut ending: &[u8] = b"bill";
-        let Input::Read(length) = read_input(&mut ending, &mut buffer) else {
-            panic!(rt; "the end was taken for a failure");
-        };
+        let length = read_input(&mut ending, &mut buffer)?;
         assert_eq!(rt; &buffer[..length], b"bill".as_slice());
         let mut failing = Failing {
             bytes: b"total",
             at_once: 2,
         };
         // It is full before the failure.
-        assert!(rt; matches!(read_input(&mut failing, &mut buffer), Input::Read(5)));
+        assert!(rt; matches!(read_input(&mut failing, &mut buffer), Ok(5)));
         assert_eq!(rt; buffer, *b"total");
         failing.bytes = b"clai";
-        assert!(rt; matches!(read_input(&mut failing, &mut buffer), Input::Failed));
+        assert!(rt;
+            matches!(read_input(&mut failing, &mut buffer), Err(error) if error.kind() == ErrorKind::Other)
+        );
+        Ok(())
     }
 }
