@@ -1,11 +1,14 @@
 -- The reply of a call on the ledger, from what the call answers and leaves. Assumes nothing.
-use Rattle.std.specs.Prelude.{Result}
-use mathlib.Core.Path.{◌≡◌, ap, ◌∙◌}
+use Rattle.std.specs.Prelude.{Result, Ok, Err, IfOk}
+use mathlib.Core.Path.{◌≡◌, sym, subst, ap, ◌∙◌}
 use mathlib.Core.List.{List}
 use Prim.Native.Nat.{ℕ}
 use Rattle.model.specs.Calls.{reply_of}
 use Rattle.model.specs.declared.Reply.{Reply}
+use Rattle.refusals.specs.declared.Refusal.{Refusal}
 use Rattle.model.specs.declared.Answer.{Answer}
+use Rattle.model.specs.declared.Answer.TheVariants.{Done}
+use Rattle.calls.specs.Replies.{AnswerFits}
 use Rattle.session.specs.Replies.{holding}
 
 -- the line of the answer
@@ -18,3 +21,8 @@ ledger-left {book = book} e = ap (λ (l : List ℕ). holding l book) e
 
 pub book-left : {ledger book after : List ℕ} → after ≡ book → holding ledger after ≡ holding ledger book
 book-left {ledger} e = ap (holding ledger) e
+
+-- what a price answers has no numbers
+pub price-fits : (said : Result Answer Refusal) → IfOk said (λ answer. answer ≡ Done) → IfOk said AnswerFits
+price-fits (Ok a) e = subst AnswerFits (sym e) tt
+price-fits (Err r) e = tt

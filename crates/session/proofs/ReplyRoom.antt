@@ -9,19 +9,16 @@ use Prim.Native.Nat.{ℕ, zero, suc, ◌+◌, ◌*◌, ◌≤◌, ◌<◌}
 use native.Mathlib.Omega.{arith}
 use lib.Dec.{ltb, eqb}
 use lib.ListN.{length}
-use Rattle.limits.specs.Limits.{day_count}
 use Rattle.basics.specs.Tests.{every}
 use Rattle.basics.proofs.Tests.{and_left, and_right, lt_yes}
 use Rattle.calendar.specs.declared.CalendarDate.{CalendarDate}
-use Rattle.calendar.specs.Calendar.{date_from}
-use Rattle.calendar.specs.Days.{dates, date_of}
 use Rattle.calendar.specs.Answers.{day_of_date, date_of_day}
 use Rattle.text.specs.declared.reading.Command.{Command}
 use Rattle.text.specs.Commands.{command_of, no_command, shortest_line}
 use Rattle.text.specs.Lines.{line_text, line_room, WroteWithin}
 use Rattle.text.proofs.LineRoom.{Short, short-room, refused-room}
 use Rattle.text.proofs.Writes.{wrote-same}
-use Rattle.text.proofs.ShortestLines.{no-shorter-line}
+use Rattle.text.proofs.ReadableLines.{no-shorter-line}
 use Rattle.model.specs.declared.Reply.{Reply}
 use Rattle.model.specs.declared.Answer.{Answer}
 use Rattle.model.specs.declared.Call.{Call}

@@ -55,7 +55,11 @@ fn write_unreadable(out: &mut [u8], at: usize) -> usize
     requires { at + 10 ≤ length out.old }
     ensures { WroteWithin 10 out.old out.new at result (line_text (reply_without_numbers 1)) }
 {
-    write_line(out, at, reply_without_numbers(u32::from(Refusal::Unreadable)))
+    write_line(
+        out,
+        at,
+        reply_without_numbers(u32::from(Refusal::Unreadable)),
+    )
 }
 
 // All lines of a text.

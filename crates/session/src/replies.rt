@@ -1,7 +1,8 @@
 // The reply to a line's command: its line, and the changes to the ledger and the book.
-ghost use Rattle.std.specs.Prelude.{◌≡◌, length};
+ghost use Rattle.std.specs.Prelude.{◌≡◌, length, IfOk};
 ghost use Rattle.limits.specs.Limits.{book_length};
 ghost use Rattle.refusals.specs.Numbers.{by_number};
+ghost use Rattle.model.specs.declared.Answer.{Answer};
 ghost use Rattle.model.specs.Calls.{reply_of};
 ghost use Rattle.session.specs.Replies.{holding, price_reply, book_with, reply, next};
 
@@ -16,6 +17,7 @@ use text::reading::Command;
 fn set_price(book: &mut [u32], index: u32, value: u32) -> Result<Answer, Refusal>
     requires { length book.old ≡ book_length }
     ensures said { reply_of (by_number result) ≡ price_reply index value }
+    ensures done { IfOk result (λ answer. answer ≡ Answer.Done) }
     ensures book_after { book.new ≡ book_with index value book.old }
 {
     let index = index as usize;
