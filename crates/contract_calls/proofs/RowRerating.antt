@@ -89,3 +89,5 @@ module _ (b : List ℕ) (i contract : ℕ) (certified : Contract) (slot : RowInS
           changed = changed _ _ (λ e. other (is-new ∙ e ∙ sym is-old));
           left = put ∙ ap (λ (y : Row). replace_at (row_start i) (record_bytes row_record y) b) (sym (new a rated));
         }
+
+pub ruleset row_rerated = (bill-rateable, bill-whole, shares-stay, amount-stays, new-amount-low)

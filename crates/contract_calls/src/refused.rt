@@ -56,7 +56,7 @@ pub fn contract_to_certify(
 }
 
 // The contract that an amend names, where no test of the amend fits.
-#[tactic(auto, using(refusals::proofs::SomeNumber::some_number), unfolding(model::specs::Rules::refusal, model::specs::PresentRules::tests, model::specs::PresentRules::open_tests, model::specs::Ledger::view, layout::specs::Layout::ledger_of))]
+#[tactic(auto, using(refusals::proofs::SomeNumber::some_number, crate::proofs::ContractAnswers::end_low), unfolding(model::specs::Rules::refusal, model::specs::PresentRules::tests, model::specs::PresentRules::open_tests, model::specs::Ledger::view, layout::specs::Layout::ledger_of))]
 pub fn contract_to_amend(
     held: HeldRows<'_>,
     number: u32,

@@ -7,7 +7,7 @@ use ledger::rows::{HeldRows, row_at};
 use rates::Contract;
 
 // What re-rating finds: the sums of the old and of the new amounts, and how many of the amounts changed.
-#[derive(Clone, Copy, Debug, Default, PartialEq, Eq)]
+#[derive(Clone, Copy, Default)]
 pub struct Rerated {
     pub old: u64,
     pub new: u64,
@@ -15,12 +15,8 @@ pub struct Rerated {
 }
 
 // Re-rates row i, which is a row of the contract. One with shares keeps its amount: the certificate is set aside.
-fn rerate_row(
-    b: &mut [u8; LEDGER_LENGTH],
-    i: usize,
-    contract: u32,
-    certified: Contract,
-) -> Rerated
+#[tactic(auto, using(crate::proofs::RowRerating::row_rerated))]
+fn rerate_row(b: &mut [u8; LEDGER_LENGTH], i: usize, contract: u32, certified: Contract) -> Rerated
     requires { RowInSlot b.old i contract certified }
     ensures { RowRerated contract certified b.old i result b.new }
 {

@@ -19,11 +19,10 @@ pub write_contract-requires-clause-fits : goal.write_contract-requires-clause-fi
 write_contract-requires-clause-fits c = certified-fits _ _ _ _ _ c.requires c.in_ok-found.ensures.refused _ _ c.in_ok-found.ensures.found c.certify-certified.ensures
 
 pub difference-requires : goal.difference-requires
-difference-requires c =
-    (
-      new-sum-low _ _ _ _ _ c.requires c.in_ok-found.ensures.refused _ _ c.in_ok-found.ensures.found c.certify-certified.ensures _ _ c.rerate_rows-rerated.ensures,
-      old-sum-low _ _ _ _ _ c.requires c.in_ok-found.ensures.refused _ _ c.in_ok-found.ensures.found c.certify-certified.ensures _ _ c.rerate_rows-rerated.ensures,
-    )
+difference-requires c = (
+  new-sum-low _ _ _ _ _ c.requires c.in_ok-found.ensures.refused _ _ c.in_ok-found.ensures.found c.certify-certified.ensures _ _ c.rerate_rows-rerated.ensures,
+  old-sum-low _ _ _ _ _ c.requires c.in_ok-found.ensures.refused _ _ c.in_ok-found.ensures.found c.certify-certified.ensures _ _ c.rerate_rows-rerated.ensures,
+)
 
 pub returns : goal.returns
 returns c =
