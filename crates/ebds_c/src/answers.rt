@@ -9,8 +9,11 @@ use model::{ANSWER_NUMBERS, Call, Reply};
 pub fn give(reply: Reply, answer: &mut [i64; ANSWER_NUMBERS]) -> u32
     ensures { Given reply result answer.new }
 {
-    *answer = reply.numbers;
-    reply.refused
+    let Reply {
+        refused, numbers, ..
+    } = reply;
+    *answer = numbers;
+    refused
 }
 
 // Makes a call of a history, and gives its answer.
