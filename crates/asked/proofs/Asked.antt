@@ -3,7 +3,7 @@
 -- of rows, ledgers stored earlier, the price of every day, the accepted calls, numbers 15, 8 and 2, the ranges of a row and the largest bill, what an
 -- amend leaves, the facts held, every answer and demand 3, also from a stored ledger on, so that no such clause can leave its record. Tables of
 -- examples aren't asked for by themselves.
-use Rattle.std.specs.Prelude.{Option, Some, None, Result, Ok, Err}
+use Rattle.std.specs.Prelude.{Some, None, Result, Ok, Err}
 use mathlib.Core.Path.{◌≡◌, refl, ap, ◌∙◌}
 use mathlib.Core.Bool.{Bool, true, false, not, cond, ◌&&◌, ◌||◌}
 use lib.Dec.{leb, ltb, eqb}

@@ -10,7 +10,9 @@ pub fn give(reply: Reply, answer: &mut [i64; ANSWER_NUMBERS]) -> u32
     ensures { Given reply result answer.new }
 {
     let Reply {
-        refused, numbers, ..
+        refused,
+        numbers,
+        ..
     } = reply;
     *answer = numbers;
     refused
