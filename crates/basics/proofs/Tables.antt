@@ -1,18 +1,12 @@
--- A rule of a table at each of its places, from one test that antt computes over all entries.
-use Prim.Native.Nat.{ℕ, zero, suc, ◌+◌, ◌<◌}
-use mathlib.Core.Path.{◌≡◌, subst}
+-- A rule of a table from each of its places to the next, from one test that antt computes over all entries.
+use Prim.Native.Nat.{ℕ, zero, suc, ◌<◌}
+use mathlib.Core.Path.{◌≡◌}
 use mathlib.Core.Bool.{Bool, true, ◌&&◌, and-eq-true_iff}
 use mathlib.Core.List.{List, [], ◌∷◌}
 use native.Mathlib.Nat.{le_of_suc-le-suc, not-suc-le-zero}
-use native.Mathlib.Omega.{arith}
 use lib.ListN.{length, get_or}
 
 module _ {A : Type 0} where
-  -- whether each entry passes the test with its number, which for the first is n
-  abbrev pub each : (ℕ → A → Bool) → ℕ → List A → Bool
-  each test n [] = true
-  each test n (x ∷ xs) = test n x && each test (suc n) xs
-
   -- whether each entry passes the test with the entry after it
   abbrev pub adjacent : (A → A → Bool) → List A → Bool
   adjacent test [] = true
@@ -20,18 +14,6 @@ module _ {A : Type 0} where
   adjacent test (x ∷ (y ∷ ys)) = test x y && adjacent test (y ∷ ys)
 
 module _ {A : Type 0} (none : A) where
-  -- such a test passes at each place
-  pub each_at :
-      (test : ℕ → A → Bool) (n : ℕ) (xs : List A)
-      → each test n xs ≡ true
-      → (i m : ℕ) → i < length xs → m ≡ n + i → test m (get_or xs i none) ≡ true
-  each_at test n [] passed i m inside number = absurd (not-suc-le-zero inside)
-  each_at test n (x ∷ xs) passed zero m inside number =
-      subst (λ (k : ℕ). test k x ≡ true) (omega arith) ((and-eq-true_iff (test n x) (each test (suc n) xs)).0 passed).0
-  each_at test n (x ∷ xs) passed (suc i) m inside number =
-      each_at test (suc n) xs ((and-eq-true_iff (test n x) (each test (suc n) xs)).0 passed).1
-      i m (le_of_suc-le-suc inside) (omega arith)
-
   -- such a test passes from each place to the next
   pub adjacent-at :
       (test : A → A → Bool) (xs : List A)

@@ -27,10 +27,6 @@ pub length-row : (x : Row) → length (record_bytes row_record x) ≡ row_length
 unfolding record_bytes size
 length-row x = length-pack (whole row_record) (slot_out row_record (Some x))
 
-pub length-contract : (k : Contract) → length (record_bytes contract_record k) ≡ contract_length
-unfolding record_bytes size
-length-contract k = length-pack (whole contract_record) (slot_out contract_record (Some k))
-
 module _ (l : Ledger) (b d : List ℕ) (held : b ≡ bytes l) where
   -- after `insert_row`
   pub inserted-row : (rows i : ℕ) (row : Row) → length l.rows ≡ rows → i ≤ rows → rows < row_count

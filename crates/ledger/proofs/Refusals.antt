@@ -25,27 +25,7 @@ use Rattle.layout.proofs.Present.{present}
 use Rattle.layout.proofs.Machine.{malformed-refused, machine-refused, machine-accepted, check_sound, searched}
 use Rattle.ledger.specs.Answered.{view_of, Summed, Answered}
 
--- ---- a list of tests, of which each was tried in turn: r is what was found of the test t
-
-module _ (r t : Bool) (n m rest : ℕ) where
-  -- it fits, and its number is given
-  pub fits : 1 ≤ m → m ≡ cond r n 0 → r ≡ t → m ≡ cond t n rest
-  fits some e f = rw (← f) (go r e)
-    where
-      go : (r : Bool) → m ≡ cond r n 0 → m ≡ cond r n rest
-      go true h = h
-      go false h = let z : ⊥ = omega arith in absurd z
-
-  -- it doesn't, and those after it decide
-  pub passes : T (leb 1 n) → 0 ≡ cond r n 0 → r ≡ t → m ≡ rest → m ≡ cond t n rest
-  passes some e f g = rw (← f) (go r e)
-    where
-      low : 1 ≤ n
-      low = le_yes 1 n (yes-T _ some)
-
-      go : (r : Bool) → 0 ≡ cond r n 0 → m ≡ cond r n rest
-      go true h = let z : ⊥ = omega (arith, low) in absurd z
-      go false h = g
+-- ---- a list of tests
 
 open-numbered : (v : View) (c : ℕ) → T (numbered (open_tests v c))
 unfolding open_tests
@@ -59,8 +39,6 @@ module _ (v : View) (c m : ℕ) (later : List Test) where
   pub open-passed : 0 ≡ first_of (open_tests v c) → m ≡ first_of later → m ≡ first_of (open_tests v c ++ later)
   open-passed none e = refused-later (open_tests v c) later m (open-numbered v c) none e
 
-pub ruleset refusals = (some_number, fits, passes, open-refused, open-passed)
-
 -- what passing them says of the contract
 module _ (b : List ℕ) (c : ℕ) (none : 0 ≡ first_of (open_tests (view_of b) c)) where
   passed : (m : ℕ) → fits_at (open_tests (view_of b) c) m ≡ false
@@ -70,10 +48,6 @@ module _ (b : List ℕ) (c : ℕ) (none : 0 ≡ first_of (open_tests (view_of b)
   pub contract-low : c < contract_count
   unfolding open_tests
   contract-low = le-no contract_count c (passed 4)
-
-  pub contract-open : is_open (contracts b) c ≡ true
-  unfolding open_tests view ledger_of
-  contract-open = not-no _ (passed 5)
 
 -- ---- what a call answers and leaves
 

@@ -21,10 +21,6 @@ use Rattle.basics.proofs.ListTests.{at-every-map, fails-every-map}
 use Rattle.records.proofs.Slots.{length-slots, slot-at, held_at}
 use Rattle.records.proofs.Zeros.{zero_at-fields}
 
--- the part from byte `at` up to byte at + n
-pub part-lent : (at n : ℕ) (b : List ℕ) → take (at + n - at) (drop at b) ≡ take n (drop at b)
-part-lent at n b = let e : at + n - at ≡ n = omega arith in ap (λ (m : ℕ). take m (drop at b)) e
-
 -- zero bytes are slots of zeros
 zero_at-none : (b : List ℕ) (f : ℕ) → zero_at f 0 b ≡ true
 unfolding zero_at
