@@ -1,7 +1,7 @@
 -- What claim, report and total answer and leave, by what the ledger's sum and header are. Assumes nothing.
 use Rattle.std.specs.Prelude.{Ok, Err}
 use mathlib.Core.Path.{◌≡◌, refl, sym, ap, ◌∙◌}
-use mathlib.Core.Bool.{Bool, true, false, cond}
+use mathlib.Core.Bool.{cond}
 use mathlib.Core.List.{List, [], ◌∷◌}
 use Prim.Native.Nat.{ℕ, ◌+◌, ◌*◌, ◌/◌, ◌%◌, ◌≤◌, ◌<◌, ◌^◌}
 use native.Mathlib.Numerals.{add-one}
@@ -11,7 +11,6 @@ use lib.IntN.{ℤ, sub_ℕ}
 use Rattle.limits.specs.Limits.{row_count, most_claims, ticks_per_penny}
 use Rattle.refusals.specs.declared.Refusal.{Refusal}
 use Rattle.refusals.specs.Numbers.{number_of}
-use Rattle.basics.proofs.Tests.{le-no}
 use Rattle.fields.specs.Fields.{Fit}
 use Rattle.records.specs.Pack.{pack}
 use Rattle.records.specs.Edits.{replace_at}
@@ -40,14 +39,6 @@ module _ (b : List ℕ) (rows due : ℕ) (s : Summed b rows due) where
   pub claim-refused : (claims : ℕ) → claims ≡ claims_in rules layout b → (r : Refusal) → number_of r ≡ cond (leb most_claims claims) 13 0 → AnsweredWithAnyBook b Call.Claim (Err r) b
   unfolding refusal tests view ledger_of
   claim-refused claims e r f book = refused-answered b (Call.Claim with book) r s.searched.formed (f ∙ ap (λ (n : ℕ). cond (leb most_claims n) 13 0) e)
-
-  -- after a claim that is not refused there may be one more
-  pub claims-left : (claims : ℕ) → ◌≡◌ {A = ℕ} 0 (cond (leb most_claims claims) 13 0) → claims < most_claims
-  claims-left claims e = le-no most_claims claims (go (leb most_claims claims) e)
-    where
-      go : (r : Bool) → ◌≡◌ {A = ℕ} 0 (cond r 13 0) → r ≡ false
-      go true h = let z : ⊥ = omega arith in absurd z
-      go false h = refl
 
   -- the header that is written, and the pence claimed by then and before
   pub header-fits : (territory claims : ℕ) → territory ≡ territory_in rules layout b → claims < most_claims → Fit layout.header (territory ∷ (claims + 1) ∷ (due / ticks_per_penny) ∷ [])

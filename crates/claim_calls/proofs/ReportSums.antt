@@ -39,9 +39,9 @@ module _ (b : List ℕ) (c n : ℕ) (s : Searched b n) where
     due-to = summed-begins b n s c _ (others-weightless c (λ x. x.amount)) i e;
   }
 
-  module _ (end : ℕ) (ends : end ≡ place_of (reaches (c + 1) 0) (facts b).rows) (i rows kwh due : ℕ) (r : ReportedTo b c i rows kwh due) where
+  module _ (first end : ℕ) (begins : first ≡ place_of (reaches c 0) (facts b).rows) (ends : end ≡ place_of (reaches (c + 1) 0) (facts b).rows) (i rows kwh due : ℕ) (r : ReportedTo b c i rows kwh due) where
     -- one row more, which is x
-    module _ (from : place_of (reaches c 0) (facts b).rows ≤ i) (h : i < end) (x : Row) (e : x ≡ row_at b i) where
+    module _ (from : first ≤ i) (h : i < end) (x : Row) (e : x ≡ row_at b i) where
       inside : i < n
       inside = below_end b n s c end ends i h
 
@@ -52,7 +52,7 @@ module _ (b : List ℕ) (c n : ℕ) (s : Searched b n) where
       reported-next =
           let all : ReportedTo b c (i + 1) (rows + for_contract c (λ y. 1) x) (kwh + for_contract c (λ y. y.bill.kwh) x) (due + for_contract c (λ y. y.amount) x) =
           record { rows-to = next r.rows-to; kwh-to = next r.kwh-to; due-to = next r.due-to } in
-          simp (yes-eq x.bill.contract c (own-contract b n s c end ends i from h x e)) at all
+          simp (yes-eq x.bill.contract c (own-contract b n s c end ends i (omega arith) h x e)) at all
 
       -- the sums fit
       pub rows_fit : rows + 1 < 2 ^ 32

@@ -4,12 +4,10 @@ use Rattle.claim_calls.proofs.CallAnswers.{claimed-fits, sum_low, claimed-low, t
 use Rattle.claim_calls.proofs.checked_total.Goals as goal
 
 pub overflow_mul-claimed : goal.overflow_mul-claimed
-overflow_mul-claimed c = record { fits = claimed-fits _ _ _ c.requires _ c.pence-claimed.ensures }
+overflow_mul-claimed c = record { fits = search claimed-fits }
 
 pub difference-requires : goal.difference-requires
-difference-requires c = (sum_low _ _ _ c.requires, claimed-low _ _ _ c.requires _ c.pence-claimed.ensures)
+difference-requires c = search (sum_low, claimed-low)
 
 pub returns : goal.returns
-returns c =
-    let unclaimed = signed-read _ _ (record { sfits = c.difference.type_inv }) c.difference.ensures in
-    total-answered _ _ _ c.requires _ _ c.pence-claimed.ensures unclaimed
+returns c = let unclaimed = signed-read _ _ (record { sfits = c.difference.type_inv }) c.difference.ensures in search total-answered
