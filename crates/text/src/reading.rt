@@ -33,7 +33,7 @@ fn has_leading_zero(word: &str) -> bool
     1 < word.len() && word.starts_with('0')
 }
 
-// A word as a number.
+// A word as a number: the library also takes a plus sign and leading zeros.
 fn read_number(word: &str) -> Option<u32>
     ensures { result ≡ number_of word.now }
 {

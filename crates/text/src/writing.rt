@@ -13,7 +13,7 @@ const NUMBER_ROOM: usize = 21;
 // No line is longer: `ok`, the numbers and the line feed.
 pub const LONGEST_LINE: usize = 2 + NUMBER_ROOM * ANSWER_NUMBERS + 1;
 
-// The line of a reply.
+// The line of a reply. It is not by `write!`, whose result may be an error: no clause says that it is none where there is room.
 fn line_text(reply: Reply) -> ArrayString<LONGEST_LINE>
     requires { reply.count ≤ answer_numbers }
     ensures text { result.bytes ≡ line_text reply }
@@ -36,6 +36,7 @@ fn line_text(reply: Reply) -> ArrayString<LONGEST_LINE>
 }
 
 // Writes the line of a reply from `at` on, and gives the place after it.
+// The place stands beside the buffer: a struct of both would owe, in each function, a clause that it still holds the same buffer.
 pub fn write_line(out: &mut [u8], at: usize, reply: Reply) -> usize
     requires { (reply.count ≤ answer_numbers) × (at + line_room reply ≤ length out.old) }
     ensures { WroteWithin (line_room reply) out.old out.new at result (line_text reply) }
