@@ -8,7 +8,6 @@ ghost use Rattle.layout.specs.Offsets.{first_contract};
 ghost use Rattle.layout.specs.Present.{rules, layout};
 
 use fields::get;
-use layout::LEDGER_LENGTH;
 use records::numbers::put_all;
 
 // The widths of the fields, in bits.
@@ -27,27 +26,30 @@ const PENCE_AT: usize = CLAIMS_AT + CLAIMS_BITS;
 
 const WIDTHS: [usize; 3] = [TERRITORY_BITS, CLAIMS_BITS, PENCE_BITS];
 
-pub fn territory(b: &[u8; LEDGER_LENGTH]) -> u32
+pub fn territory(b: &[u8]) -> u32
+    requires { first_contract ≤ length b.now }
     ensures { result ≡ territory_in rules layout b.now }
 {
     get(b, TERRITORY_AT, TERRITORY_BITS)
 }
 
-pub fn claims(b: &[u8; LEDGER_LENGTH]) -> u32
+pub fn claims(b: &[u8]) -> u32
+    requires { first_contract ≤ length b.now }
     ensures { result ≡ claims_in rules layout b.now }
 {
     get(b, CLAIMS_AT, CLAIMS_BITS)
 }
 
-pub fn pence(b: &[u8; LEDGER_LENGTH]) -> u64
+pub fn pence(b: &[u8]) -> u64
+    requires { first_contract ≤ length b.now }
     ensures { result ≡ pence_in rules layout b.now }
 {
     get(b, PENCE_AT, PENCE_BITS)
 }
 
 // Writes the header anew.
-pub fn write_header(b: &mut [u8; LEDGER_LENGTH], territory: u32, claims: u32, pence: u64)
-    requires { Fit layout.header (territory ∷ claims ∷ pence ∷ []) }
+pub fn write_header(b: &mut [u8], territory: u32, claims: u32, pence: u64)
+    requires { (first_contract ≤ length b.old) × Fit layout.header (territory ∷ claims ∷ pence ∷ []) }
     ensures { b.new ≡ replace_at 0 (pack layout.header (territory ∷ claims ∷ pence ∷ [])) b.old }
 {
     put_all(

@@ -1,26 +1,24 @@
 -- The first of a call's tests that fits, from what each test finds; and what a call answers by it. Assumes nothing.
 use Rattle.std.specs.Prelude.{Ok, Err}
 use mathlib.Core.Path.{◌≡◌, sym, ◌∙◌}
-use mathlib.Core.Bool.{Bool, true, false, cond}
+use mathlib.Core.Bool.{false}
 use mathlib.Core.List.{List, ◌++◌}
 use Prim.Native.Nat.{ℕ, ◌<◌, ◌≤◌}
 use native.Mathlib.Omega.{arith}
-use lib.Dec.{T, leb}
-use Rattle.basics.proofs.Tests.{le-no, le_yes, not-no, yes-T}
+use lib.Dec.{T}
+use Rattle.basics.proofs.Tests.{le-no}
 use Rattle.limits.specs.Limits.{contract_count}
 use Rattle.refusals.specs.declared.Refusal.{Refusal}
 use Rattle.refusals.specs.Numbers.{number_of}
 use Rattle.refusals.proofs.SomeNumber.{some_number}
 use Rattle.model.specs.declared.Answer.{Answer}
-use Rattle.model.specs.OpenContracts.{is_open}
 use Rattle.model.specs.Calls.{CallWithBook, View, Test, first_of}
 use Rattle.model.specs.Rules.{refusal}
-use Rattle.model.specs.Ledger.{view, accept}
+use Rattle.model.specs.Ledger.{accept}
 use Rattle.model.specs.PresentRules.{open_tests}
 use Rattle.model.proofs.Refusals.{fits_at, numbered, clear, refused-first, refused-later}
-use Rattle.layout.specs.Layout.{ledger_of}
 use Rattle.layout.specs.declared.Totals.{Totals}
-use Rattle.layout.specs.Present.{rules, facts, bytes, Formed, contracts, checked_of, Searched}
+use Rattle.layout.specs.Present.{rules, facts, bytes, Formed, checked_of, Searched}
 use Rattle.layout.proofs.Present.{present}
 use Rattle.layout.proofs.Machine.{malformed-refused, machine-refused, machine-accepted, check_sound, searched}
 use Rattle.ledger.specs.Answered.{view_of, Summed, Answered}

@@ -1,8 +1,10 @@
 -- `claim` is turned down by the number of claims, or writes the header by the sum and the header that was there.
-use Prim.Native.Nat.{◌<◌}
+use Prim.Native.Nat.{◌<◌, ◌≤◌}
 use native.Mathlib.Omega.{arith}
+use lib.ListN.{length}
 use Rattle.std.proofs.lemmas.Result.{err_from_is_err_and}
 use Rattle.limits.specs.Limits.{most_claims}
+use Rattle.layout.specs.Offsets.{first_contract}
 use Rattle.signed.proofs.SignedDifferences.{signed-read}
 use Rattle.claim_calls.proofs.CallAnswers.{claim-refused, header-fits, pence-due-low, pence-low, claim-answered}
 use Rattle.claim_calls.proofs.claim.Goals as goal
@@ -13,7 +15,10 @@ returns-in_err-refuse_if c =
     rw (p.1, p.2) (search (claim-refused, c.in_err-refuse_if.ensures))
 
 pub write_header-requires : goal.write_header-requires
-write_header-requires c = let low : c.claims-claims.result < most_claims = grind (arith, c.in_ok-refuse_if.ensures) in search (header-fits, low)
+write_header-requires c =
+    let low : c.claims-claims.result < most_claims = grind (arith, c.in_ok-refuse_if.ensures) in
+    let there : first_contract ≤ length c.args.ledger.now = omega (arith, c.fits-ledger) in
+    search (header-fits, low, there)
 
 pub difference-requires : goal.difference-requires
 difference-requires c = search (pence-due-low, pence-low)
