@@ -158,7 +158,8 @@ impl RateableBill {
     }
 }
 
-// The rate that a bill answers, in ticks: that of its first day, and with shares the baseline one.
+// The rate that a bill answers, in ticks: that of its first day, and with shares the baseline one. Here and below contract and bill stand
+// side by side: a bill names its contract by a number, and what is asked of both differs from call to call.
 #[tactic(auto, using(crate::proofs::Shares::rates), unfolding(rates::specs::TermsTaken::terms_for))]
 pub fn rate(contract: Contract, bill: Bill) -> u64
     ensures { result ≡ by_terms rate contract bill }
@@ -186,7 +187,7 @@ pub fn amount(contract: Contract, bill: Bill) -> u64
 }
 
 // The amount of a bill without shares. A certificate asks it of such rows of its contract and is its one caller: LLVM inlines a function
-// with one caller whatever its size, and `amount` has several.
+// with one caller whatever its size, and `amount` has several. By `amount` a certificate had 39,500 instructions in place of 21,000.
 pub fn whole_amount(contract: Contract, bill: Bill) -> u64
     requires { Rateable bill × (has_shares bill ≡ false) }
     ensures { result ≡ by_terms amount contract bill }

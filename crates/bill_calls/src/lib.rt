@@ -17,7 +17,8 @@ use model::{Answer, Request};
 use refusals::Refusal;
 use rows::{add_row, remove_row, replace_row};
 
-// bill: adds a row; answers R, rate and amount.
+// bill: adds a row; answers R, rate and amount. It shares with rebill what they call: one function of both would take the tests of the
+// row's place and the change, with the contracts of these.
 pub fn bill(
     ledger: &mut [u8; LEDGER_LENGTH],
     rows: usize,

@@ -64,4 +64,5 @@ day_and_date_inverse = record {
     day-nowhere year month day,
   );
   date_refused = λ n. ((λ none inside. let is = date-inside n inside in cc), date-late n);
+  number = (refl, refl);
 }

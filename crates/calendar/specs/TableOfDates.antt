@@ -4,7 +4,7 @@ use Rattle.calendar.specs.declared.CalendarDate.{CalendarDate}
 use Rattle.calendar.specs.declared.dates.TheConstants.{DATES}
 use Rattle.calendar.specs.Calendar.{date_from, next_date}
 use Rattle.calendar.specs.Days.{date_of, unpacked, packed_dates}
-use Rattle.calendar.specs.Answers.{day_of_date, date_of_day}
+use Rattle.calendar.specs.Answers.{day_of_date, date_of_day, refusal_if_none}
 
 -- the date at an entry of a packed table
 abbrev pub date_at : List ℕ → ℕ → CalendarDate
@@ -24,10 +24,11 @@ pub record TableOfDates : Type 0 where
       ≡ date_from 2021 12 1 ∷ date_from 2023 4 1 ∷ date_from 2023 4 26
       ∷ date_from 2024 2 1 ∷ date_from 2024 2 29 ∷ date_from 2024 3 31 ∷ []
 
--- day and date: each is the inverse of the other, and each turns down exactly what isn't in the table
+-- day and date: each is the inverse of the other, and each turns down, by number 7, exactly what isn't in the table
 pub record DayAndDateInverse : Type 0 where
   pub inverse : (year month day number : ℕ)
       → (day_of_date year month day ≡ Some number) ↔ (date_of_day number ≡ Some (date_from year month day))
   pub day_refused : (year month day : ℕ)
       → (day_of_date year month day ≡ None) ↔ ((number : ℕ) → number < 852 → date_of number ≡ date_from year month day → ⊥)
   pub date_refused : (number : ℕ) → (date_of_day number ≡ None) ↔ (number < 852 → ⊥)
+  pub number : (refusal_if_none {A = ℕ} None ≡ 7) × (refusal_if_none {A = CalendarDate} None ≡ 7)

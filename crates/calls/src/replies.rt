@@ -8,7 +8,7 @@ use calendar::CalendarDate;
 use model::{ANSWER_NUMBERS, Answer, Reply};
 use refusals::Refusal;
 
-// A refusal by its number; 0 where it is ok without numbers.
+// A refusal by its number; 0 where it is ok without numbers. The number, since it is what C gets.
 pub fn reply_without_numbers(refused: u32) -> Reply
     ensures { result ≡ reply_without_numbers refused }
 {
@@ -57,7 +57,7 @@ fn reply_of_answer(answer: Answer) -> Reply
     }
 }
 
-// The reply of a call on the ledger.
+// The reply of a call on the ledger. No From here and below: neither type is of this crate.
 pub fn reply_of(said: Result<Answer, Refusal>) -> Reply
     requires { IfOk said AnswerFits }
     ensures { result ≡ reply_of (by_number said) }

@@ -81,7 +81,7 @@ pub fn checked_total(ledger: &[u8; LEDGER_LENGTH], totals: Totals) -> Answer
     }
 }
 
-// report on any bytes, which stay as they are.
+// report on any bytes, which stay as they are: for C, which lends a ledger to be read alone.
 pub fn report(ledger: &[u8], contract: u32) -> Result<Answer, Refusal>
     ensures { AnsweredWithAnyBook ledger.now (Call.Report contract) result ledger.now }
 {
@@ -96,7 +96,7 @@ pub fn report(ledger: &[u8], contract: u32) -> Result<Answer, Refusal>
     checked_report(held, contract)
 }
 
-// total on any bytes, which stay as they are.
+// total on any bytes, which stay as they are: for C, too.
 pub fn total(ledger: &[u8]) -> Result<Answer, Refusal>
     ensures { AnsweredWithAnyBook ledger.now Call.Total result ledger.now }
 {

@@ -135,7 +135,8 @@ pub fn packed_row(row: Row) -> [u8; ROW_LENGTH]
     slot
 }
 
-// Writes the amount of the row that a slot holds.
+// Writes the amount of the row that a slot holds. The slot is a slice: of an array lent out of the ledger no clause says that what is
+// written to it is written to the ledger.
 pub fn put_amount(s: &mut [u8], amount: u64)
     requires { (length s.old ≡ row_length) × (IsPacked row_record s.old × (amount < 2 ^ 50)) }
     ensures { s.new ≡ record_bytes row_record (with_amount (record_in row_record s.old) amount) }

@@ -80,7 +80,7 @@ pub fn ebds_bill(
     make(ledger, book, call, answer)
 }
 
-// rebill, same numbers.
+// rebill, same numbers; a function of its own, since C calls it by its name.
 pub fn ebds_rebill(
     ledger: &mut [u8],
     book: &[u32],

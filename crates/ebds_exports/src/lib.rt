@@ -1,4 +1,5 @@
-// The calls for C, exported under their names: each is `ebds_c`'s function of the same name, and include/ebds.h declares it.
+// The calls for C, exported under their names: each is `ebds_c`'s function of the same name, and include/ebds.h declares it. They stand
+// twice, since no crate can use a static library and others call them, too.
 
 #![tactic(auto)]
 

@@ -61,7 +61,8 @@ fn window_start(len: usize, at: usize, w: usize) -> usize
 }
 
 // What the field of w bits from bit `at` on holds, all of it in the window of eight bytes from byte `first` on. Where `first` is known
-// beforehand, several fields of one window take one load.
+// beforehand, several fields of one window take one load. A field's first bit and its width are two numbers: what is asked of them is asked
+// of the bytes, too, so that a struct of both could hold little of it.
 pub fn get_window<T: Number>(s: &[u8], first: usize, at: usize, w: usize) -> T
     requires { (0 < w) × ((w ≤ T.widest) × ((first + 8 ≤ length s.now) × ((8 * first ≤ at) × (at + w ≤ 8 * first + 64)))) }
     ensures { T.value result ≡ field_at s.now at w }

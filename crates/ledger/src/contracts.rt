@@ -15,7 +15,8 @@ use limits::CONTRACT_COUNT;
 use rates::Contract;
 use refusals::{Refusal, refuse_if};
 
-// The slot of the contract with that number.
+// The slot of the contract with that number. Of contracts and of rows each its own: one function of both would take the start and the size,
+// and say of them what these say by name.
 pub(crate) fn slot(b: &[u8; LEDGER_LENGTH], c: usize) -> &[u8; CONTRACT_LENGTH]
     requires { c < contract_count }
     ensures { result.now ≡ contract_part b.now c }

@@ -68,7 +68,8 @@ pub fn row_at(b: &[u8; LEDGER_LENGTH], i: usize) -> Row
     codec::rows::unpack_row(slot(b, i))
 }
 
-// The held rows of a well-formed ledger: its bytes, and how many rows there are.
+// The held rows of a well-formed ledger: its bytes, and how many rows there are. A function that writes takes the two by themselves, since
+// after a row is put in or taken out the number is another.
 #[derive(Clone, Copy)]
 pub struct HeldRows<'a> {
     pub bytes: &'a [u8; LEDGER_LENGTH],
@@ -86,7 +87,8 @@ impl HeldRows<'_> {
     }
 
     // The place of the first held row that is of a later contract, or that ends on that day of the contract or after it; the number of rows
-    // where there is none. The rows are halved: once a row is such, all later ones are.
+    // where there is none. The rows are halved: once a row is such, all later ones are. The library's `partition_point` halves a slice of
+    // items; of the packed slots, cut by `as_chunks`, it took lemmas of its own to say that item i is row i.
     pub fn first_reaching(self, contract: u32, day: u32) -> usize
         ensures { result ≡ place_of (reaches contract day) (facts self.entry.bytes.now).rows }
     {

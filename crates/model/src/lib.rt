@@ -24,7 +24,7 @@ pub struct Request {
     pub qhs: u32,
 }
 
-// A call of a history, with its numbers.
+// A call of a history, with its numbers as they were given: a code without meaning is turned down by 6, after other tests.
 #[derive(Clone, Copy)]
 pub enum Call {
     Open {
@@ -98,7 +98,7 @@ pub enum Answer {
 pub const ANSWER_NUMBERS: usize = 3;
 
 // The reply of a call: the number of the refusal, 0 where the call is accepted; how many numbers it has, and those in the
-// paper's order, zeros after them. It is what C gets, which has no Result.
+// paper's order, zeros after them. It is what C gets, which has no Result, and all the numbers, whatever the count.
 #[derive(Clone, Copy)]
 pub struct Reply {
     pub refused: u32,

@@ -6,6 +6,7 @@ ghost use Rattle.records.specs.Edits.{replace_at};
 ghost use Rattle.records.specs.Widths.{Writable};
 
 // Writes the values into the fields of these widths, one after the other from the first bit on: the record of the values stands first.
+// Widths and values are two lists, as in the statements: the widths are a constant of the record.
 pub fn put_all(s: &mut [u8], widths: &[usize], values: &[u64])
     requires { Writable s.old widths.now values.now }
     ensures { s.new ≡ replace_at 0 (pack widths.now values.now) s.old }

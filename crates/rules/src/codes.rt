@@ -6,7 +6,8 @@ ghost use Rattle.model.specs.Codes.{fuel_of, fuel_code, kind_of, kind_code, pric
 
 use rates::{Amendment, Certificate, Contract, Fuel, Kind};
 
-// The numbers that stand for a contract, in the papers' order.
+// The numbers that stand for a contract, in the papers' order. Its codes are numbers, too: a slot may hold some without meaning, which the
+// ranges turn down.
 #[derive(Clone, Copy)]
 pub struct ContractNumbers {
     pub fuel: u32,
@@ -56,6 +57,7 @@ pub fn certificate_of(class: u32, effective_day: u32) -> Certificate
     }
 }
 
+// No From: the type is of another crate, where the papers' codes aren't stated yet.
 pub fn fuel_code(fuel: Fuel) -> u32
     ensures { result ≡ fuel_code fuel }
 {
@@ -65,7 +67,7 @@ pub fn fuel_code(fuel: Fuel) -> u32
     }
 }
 
-// The code of a kind, its price-fix day and its entry day.
+// The code of a kind, its price-fix day and its entry day. A part of From of a contract, as is the next.
 fn kind_numbers(kind: Kind) -> (u32, u32, u32)
     ensures code { result.0 ≡ kind_code kind }
     ensures price_fixed { result.1 ≡ price_fix_day_of kind }

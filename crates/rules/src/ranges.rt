@@ -55,7 +55,8 @@ pub fn bad_effective(class: u32, effective_day: u32) -> bool
     LAST_DAY < effective_day || effective_day < first_day
 }
 
-// An original end is no day of the scheme, or an amendment's price-fix or entry day is after the last day.
+// An original end is no day of the scheme, or an amendment's price-fix or entry day is after the last day. The days one by one, since a
+// slot has them also where its flag is clear.
 #[tactic(auto, unfolding(model::specs::PresentRules::bad_amendment_days))]
 pub fn bad_amendment_days(original_end_day: u32, price_fix_day: u32, entry_day: u32) -> bool
     ensures { result ≡ bad_amendment_days original_end_day price_fix_day entry_day }
@@ -111,7 +112,7 @@ pub fn bad_amounts(contract: Contract, request: Request) -> bool
 pub fn bad_shares(kwh: u32, etii: u32, qhs: u32) -> bool
     ensures { result ≡ bad_shares kwh etii qhs }
 {
-    (kwh as u64) < etii as u64 + qhs as u64
+    u64::from(kwh) < u64::from(etii) + u64::from(qhs)
 }
 
 // A clear flag has a day that is not 0; or a set one is on a contract that is not fixed, or has a day out of its range.
