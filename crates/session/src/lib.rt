@@ -17,7 +17,6 @@ use layout::LEDGER_LENGTH;
 use limits::BOOK_LENGTH;
 use refusals::Refusal;
 use replies::reply;
-use text::pieces::find;
 use text::reading::{SHORTEST_LINE, read_command};
 use text::writing::{LONGEST_LINE, write_line};
 
@@ -67,15 +66,12 @@ fn reply_to_lines(input: &[u8], ledger: &mut [u8], book: &mut [u32], out: &mut [
     requires { (length book.old ≡ book_length) × (output_per_byte * length input.now ≤ length out.old) }
     ensures { WroteWithin (output_per_byte * length input.now) out.old out.new 0 result (printed (exchanges (holding ledger.old book.old) (commands_of input.now))) }
 {
-    let mut at: usize = 0;
     let mut written: usize = 0;
-    while at < input.len() {
-        let end = find(input, at, b'\n');
-        if end == input.len() {
+    for line in input.split_inclusive(|byte| *byte == b'\n') {
+        let Some(line) = line.strip_suffix(b"\n") else {
             return write_unreadable(out, written);
-        }
-        written = reply_to_line(&input[at..end], ledger, book, out, written);
-        at = end + 1;
+        };
+        written = reply_to_line(line, ledger, book, out, written);
     }
     written
 }

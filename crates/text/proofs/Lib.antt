@@ -1,5 +1,4 @@
--- Laws of texts in pieces, numbers in decimal, commands and lines.
-pub mod PieceLaws
+-- Laws of numbers in decimal, commands and lines.
 pub mod Digits
 pub mod WordNumbers
 pub mod RoundTrip

@@ -2,6 +2,5 @@
 
 #![tactic(auto)]
 
-pub mod pieces;
 pub mod reading;
 pub mod writing;
