@@ -75,7 +75,6 @@ module _ {left part after : List ℕ} (f : FirstLine left part after) where
 -- ---- the loop: with `left` to be read and `written` written
 pub record Reached (input : List ℕ) (s₀ : State) (out₀ : List ℕ) (s : State) (out left : List ℕ) (written : ℕ) : Type 0 where
   pub room : written + output_per_byte * length left ≤ output_per_byte * length input
-  pub book : length s.book ≡ length s₀.book
   pub ledger : length s.ledger ≡ length s₀.ledger
   pub long : length out ≡ length out₀
   pub done : List ℕ
@@ -83,7 +82,7 @@ pub record Reached (input : List ℕ) (s₀ : State) (out₀ : List ℕ) (s : St
   pub rest : done ++ printed_of s left ≡ printed_of s₀ input
 
 pub nothing-reached : (input : List ℕ) (s : State) (out : List ℕ) → Reached input s out s out input 0
-nothing-reached input s out = record { room = omega arith; book = refl; ledger = refl; long = refl; done = []; wrote = wrote_none out 0; rest = refl }
+nothing-reached input s out = record { room = omega arith; ledger = refl; long = refl; done = []; wrote = wrote_none out 0; rest = refl }
 
 module _ {input : List ℕ} {s₀ : State} {out₀ : List ℕ} {s : State} {out left : List ℕ} {written : ℕ} (r : Reached input s₀ out₀ s out left written) where
   -- all is read
@@ -106,11 +105,10 @@ module _ {input : List ℕ} {s₀ : State} {out₀ : List ℕ} {s : State} {out 
     pub line-reached : (line : List ℕ) → part ≡ line ++ line_feed ∷ [] → {s' : State} {out' : List ℕ} {w : ℕ}
         → WroteWithin (output_per_byte * (length line + 1)) out out' written w (line_text (reply s (command_of line)))
         → s' ≡ next s (command_of line)
-        → length s'.book ≡ length s.book → length s'.ledger ≡ length s.ledger → length out' ≡ length out
+        → length s'.ledger ≡ length s.ledger → length out' ≡ length out
         → Reached input s₀ out₀ s' out' after w
-    line-reached line e {s'} v q kb kl ko = record {
+    line-reached line e {s'} v q kl ko = record {
       room = omega (arith, r.room, v.within, ap length f.whole, ap length e, length-append part after, length-append line (line_feed ∷ []));
-      book = kb ∙ r.book;
       ledger = kl ∙ r.ledger;
       long = ko ∙ r.long;
       done = r.done ++ line_text (reply s (command_of line));

@@ -5,7 +5,6 @@
 mod replies;
 
 ghost use Rattle.std.specs.Prelude.{◌≡◌, ◌+◌, ◌*◌, ◌≤◌, length};
-ghost use Rattle.limits.specs.Limits.{book_length};
 ghost use Rattle.model.specs.Calls.{reply_without_numbers};
 ghost use Rattle.text.specs.Commands.{command_of};
 ghost use Rattle.text.specs.Lines.{line_text, WroteWithin};
@@ -33,15 +32,15 @@ pub const MOST_OUTPUT: usize = OUTPUT_PER_BYTE * MOST_INPUT;
 // The territory of the ledger at first: Great Britain.
 const GREAT_BRITAIN: u32 = 0;
 
-// One line, without its line feed: the line printed for it is written from `at` on.
+// One line, without its line feed: the line printed for it is written from `at` on, a place beside the buffer, as in `write_line`.
 fn reply_to_line(
     line: &[u8],
     ledger: &mut [u8],
-    book: &mut [u32],
+    book: &mut [u32; BOOK_LENGTH],
     out: &mut [u8],
     at: usize,
 ) -> usize
-    requires { (length book.old ≡ book_length) × (at + output_per_byte * (length line.now + 1) ≤ length out.old) }
+    requires { at + output_per_byte * (length line.now + 1) ≤ length out.old }
     ensures wrote_within { WroteWithin (output_per_byte * (length line.now + 1)) out.old out.new at result (line_text (reply (holding ledger.old book.old) (command_of line.now))) }
     ensures book_after { holding ledger.new book.new ≡ next (holding ledger.old book.old) (command_of line.now) }
 {
@@ -62,8 +61,13 @@ fn write_unreadable(out: &mut [u8], at: usize) -> usize
 }
 
 // All lines of a text.
-fn reply_to_lines(input: &[u8], ledger: &mut [u8], book: &mut [u32], out: &mut [u8]) -> usize
-    requires { (length book.old ≡ book_length) × (output_per_byte * length input.now ≤ length out.old) }
+fn reply_to_lines(
+    input: &[u8],
+    ledger: &mut [u8],
+    book: &mut [u32; BOOK_LENGTH],
+    out: &mut [u8],
+) -> usize
+    requires { output_per_byte * length input.now ≤ length out.old }
     ensures { WroteWithin (output_per_byte * length input.now) out.old out.new 0 result (printed (exchanges (holding ledger.old book.old) (commands_of input.now))) }
 {
     let mut written: usize = 0;
@@ -76,7 +80,8 @@ fn reply_to_lines(input: &[u8], ledger: &mut [u8], book: &mut [u32], out: &mut [
     written
 }
 
-// The whole input: what is printed of it is written to the start of `out`, and the number of its bytes is answered.
+// The whole input: what is printed of it is written to the start of `out`, which may be longer than any output, and the number of its bytes
+// is answered.
 pub fn session(input: &[u8], out: &mut [u8]) -> usize
     requires { most_output ≤ length out.old }
     ensures { WroteWithin most_output out.old out.new 0 result (transcript input.now) }

@@ -1,6 +1,5 @@
 // The reply to a line's command: its line, and the changes to the ledger and the book.
-ghost use Rattle.std.specs.Prelude.{◌≡◌, length, IfOk};
-ghost use Rattle.limits.specs.Limits.{book_length};
+ghost use Rattle.std.specs.Prelude.{◌≡◌, IfOk};
 ghost use Rattle.refusals.specs.Numbers.{by_number};
 ghost use Rattle.model.specs.declared.Answer.{Answer};
 ghost use Rattle.model.specs.Calls.{reply_of};
@@ -14,8 +13,7 @@ use text::reading::Command;
 
 // price: sets an entry of the book.
 #[tactic(auto, unfolding(crate::specs::Replies::price_reply, crate::specs::Replies::book_with))]
-fn set_price(book: &mut [u32], index: u32, value: u32) -> Result<Answer, Refusal>
-    requires { length book.old ≡ book_length }
+fn set_price(book: &mut [u32; BOOK_LENGTH], index: u32, value: u32) -> Result<Answer, Refusal>
     ensures said { reply_of (by_number result) ≡ price_reply index value }
     ensures done { IfOk result (λ answer. answer ≡ Answer.Done) }
     ensures book_after { book.new ≡ book_with index value book.old }
@@ -29,9 +27,13 @@ fn set_price(book: &mut [u32], index: u32, value: u32) -> Result<Answer, Refusal
     Ok(Answer::Done)
 }
 
-// A line's command on the ledger and the book; one that can't be read is turned down.
-pub fn reply(command: Result<Command, Refusal>, ledger: &mut [u8], book: &mut [u32]) -> Reply
-    requires { length book.old ≡ book_length }
+// A line's command on the ledger and the book; one that can't be read is turned down. A match, and no closures: the compiler sees that it
+// has every command.
+pub fn reply(
+    command: Result<Command, Refusal>,
+    ledger: &mut [u8],
+    book: &mut [u32; BOOK_LENGTH],
+) -> Reply
     ensures reply { result ≡ reply (holding ledger.old book.old) (by_number command) }
     ensures next { holding ledger.new book.new ≡ next (holding ledger.old book.old) (by_number command) }
 {

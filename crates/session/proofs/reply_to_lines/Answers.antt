@@ -19,7 +19,7 @@ loop-line-preserved c =
     let f = first_line _ _ _ _ _ _ c.in-Some.ensures.steps (λ x b q k. search (rules, tests)) in
     let e = strip_suffix_is Decides-eqb _ (10 ∷ []) (Some c.in-Some-strip_suffix.line) c.in-Some-strip_suffix.ensures.cases in
     line-reached c.loop-line.invariant f _ e c.reply_to_line-written.ensures.wrote_within c.reply_to_line-written.ensures.book_after
-    c.reply_to_line-written.auto.book c.reply_to_line-written.auto.ledger c.reply_to_line-written.auto.out
+    c.reply_to_line-written.auto.ledger c.reply_to_line-written.auto.out
 
 pub returns : goal.returns
 returns c = all-reached c.loop-line.invariant c.in-None.ensures.steps.0
