@@ -3,7 +3,6 @@ ghost use Rattle.std.specs.Prelude.{◌≡◌, not, ◌∷◌, ◌++◌, suc, le
 ghost use Rattle.fields.specs.Fields.{Fit};
 ghost use Rattle.records.specs.Slots.{slot_ok, all_zero, zeros_for, record_fields};
 ghost use Rattle.layout.specs.PresentLayout.{contract_record};
-ghost use Rattle.layout.specs.Offsets.{contract_length};
 ghost use Rattle.records.specs.OneSlot.{slot_numbers, is_taken, record_in, record_bytes};
 ghost use Rattle.model.specs.PresentRules.{contract_ranges};
 ghost use Rattle.rules.specs.ContractListed.{listed};

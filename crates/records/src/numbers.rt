@@ -1,6 +1,5 @@
-// The packed numbers of a record: one read, and all of them written.
-ghost use Rattle.std.specs.Prelude.{◌≡◌, ◌+◌, ◌*◌, ◌<◌, ◌≤◌, length};
-ghost use Rattle.fields.specs.Field.{field_at};
+// The numbers of a record written to its packed fields.
+ghost use Rattle.std.specs.Prelude.{◌≡◌};
 ghost use Rattle.records.specs.Pack.{pack};
 ghost use Rattle.records.specs.Edits.{replace_at};
 ghost use Rattle.records.specs.Widths.{Writable};

@@ -2,7 +2,7 @@
 ghost use Rattle.std.specs.Prelude.{◌≡◌};
 ghost use Rattle.model.specs.ContractNumbers.{numbers_of_contract, contract_of_numbers};
 ghost use Rattle.rules.specs.ContractListed.{listed};
-ghost use Rattle.model.specs.Codes.{fuel_of, fuel_code, kind_of, kind_code, price_fix_day_of, entry_day_of, is_fixed, is_flexible, is_monthly, certificate_of, class_code, effective_day_of, amendment_of, amendment_flag_of, original_end_day_of, amended_price_fix_day_of, amended_entry_day_of};
+ghost use Rattle.model.specs.Codes.{fuel_of, fuel_code, kind_of, kind_code, price_fix_day_of, entry_day_of, is_fixed, is_flexible, is_monthly, certificate_of, class_code, effective_day_of, amendment_of};
 
 use rates::{Amendment, Certificate, Contract, Fuel, Kind};
 
