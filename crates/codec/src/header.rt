@@ -1,4 +1,4 @@
-// The header in the ledger's first bytes.
+// The header in the ledger's first bytes. It is read and written in any bytes that hold it: an array would ask callers for all of a ledger.
 ghost use Rattle.std.specs.Prelude.{◌≡◌, ◌≤◌, [], ◌∷◌, length};
 ghost use Rattle.fields.specs.Fields.{Fit};
 ghost use Rattle.records.specs.Pack.{pack};
