@@ -1,5 +1,6 @@
 -- `check_rows` goes over the slots once: what is found of the rest, with the rows and their amounts so far and the contract and last day of
--- the last row, is what is to be found.
+-- the last row, is what is to be found. Three answers read off which contract was found, each from its own goal, whose type has no name to
+-- state a lemma over.
 use mathlib.Core.Path.{◌≡◌, sym, ◌∙◌}
 use native.Mathlib.Omega.{arith}
 use Rattle.std.proofs.lemmas.Result.{err_from_is_err_and}
