@@ -36,11 +36,18 @@ fn is_ending_after(contract: u32, day: u32, bill: Bill) -> bool
     bill.contract == contract && day < bill.last
 }
 
-// Whether a bill comes after that day of the contract: it is of a later contract, or begins later.
+// Whether a bill comes after that day of the contract: it is of a later contract, or begins later. In steps, since of one expression LLVM
+// works out every part: a bill's place took 20 instructions a row in place of 12.
 pub fn comes_after(contract: u32, day: u32, bill: Bill) -> bool
     ensures { result ≡ comes_after contract day bill }
 {
-    contract < bill.contract || (contract == bill.contract && day < bill.first)
+    if contract < bill.contract {
+        return true;
+    }
+    if contract == bill.contract {
+        return day < bill.first;
+    }
+    false
 }
 
 // Whether a bill is of a later contract, or ends on that day of the contract or after it.
