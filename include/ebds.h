@@ -2,7 +2,7 @@
  * The calls of the discount ledger of the Energy Bills Discount Scheme, for C and C++.
  *
  * The calls, their numbers, answers and refusals are those of document 01, "The discount ledger of
- * the Energy Bills Discount Scheme", with papers 1 to 5 of document 02, "Later changes to the
+ * the Energy Bills Discount Scheme", with papers 1 to 6 of document 02, "Later changes to the
  * base". The library is target/staticlib/libebds_c.a, which the script `./build-library` proves and
  * builds. It keeps nothing between calls and allocates nothing.
  *
@@ -15,9 +15,11 @@
  * The ledger
  *   A packed ledger is EBDS_LEDGER_LENGTH bytes. A call takes bytes of any length and any contents
  *   and gives 2 where they aren't a well-formed ledger. It may be copied, stored and sent as bytes.
- *   A ledger of an earlier layout has another length and gives 2. A ledger may hold rows of variable
- *   and index contracts across two months or more: they stand with the price that they hold, and
- *   take certificates and cancellation.
+ *   A ledger of an earlier layout has another length and gives 2. A ledger may hold rows that no
+ *   call makes: of variable and index contracts across two months or more, and of 40,000,001 to
+ *   100,000,000 kWh. They stand with the price and the kWh that they hold, and are re-rated,
+ *   reported, claimed and cancelled like others; billed again, their span and kWh must be such as a
+ *   bill may give.
  *
  * The price book
  *   EBDS_BOOK_LENGTH prices in mils (thousandths of a penny per kWh), 0 meaning not published. Fixed
@@ -42,7 +44,8 @@
  *   17  the span starts on or before the original end of an amended contract and ends after it
  *       (ebds_bill, ebds_rebill)
  *   18  a row of the contract ends after the original end given (ebds_amend)
- *    8  kWh is above 100,000,000, S or WAP above 999,999, or a WAP isn't 0 where it must be
+ *    8  kWh is above 40,000,000, S or WAP above 999,999, or a WAP isn't 0 where it must be
+ *       (ebds_bill, ebds_rebill)
  *   14  the two shares exceed kWh (ebds_bill, ebds_rebill)
  *    9  no row of that contract has that first day (ebds_rebill, ebds_cancel)
  *   10  another row of the contract shares a day with the span (ebds_bill, ebds_rebill)

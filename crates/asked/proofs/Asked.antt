@@ -12,7 +12,7 @@ use mathlib.Core.Logic.{◌↔◌, ◌⊎◌}
 use Prim.Native.Nat.{ℕ, suc, ◌+◌, ◌-◌, ◌*◌, ◌/◌, ◌^◌, ◌≤◌, ◌<◌}
 use lib.IntN.{ℤ, pos, ◌+ℤ◌, ◌-ℤ◌, ◌*ℤ◌}
 use lib.ListN.{length}
-use Rattle.limits.specs.Limits.{most_kwh_given, row_count}
+use Rattle.limits.specs.Limits.{row_count}
 use Rattle.basics.specs.Tests.{every}
 use Rattle.basics.specs.Lists.{total, count, All}
 use Rattle.basics.specs.Integers.{minℤ, at_least_zero, sumℤ}
@@ -468,7 +468,7 @@ module _ (v : View) (book : List ℕ) where
     dated t = record { prices = t.0; number = t.1; opened = t.2; days = t.3 }
 
     right : UpToDays → UpToPrice → RightNumbers v q book
-    right t u = record { right = dated t; months = u.0; inside = u.1; amounts = u.2; shares = u.3; priced = u.4 }
+    right t u = record { span = record { right = dated t; months = u.0; inside = u.1 }; amounts = u.2; shares = u.3; priced = u.4 }
 
     pub bill-taken : UpToDays → UpToPrice → v.held (sharing q.contract q.first q.last) ≡ 0 → v.held (λ x. true) < 1024 → refusal rules v (Call.Bill q with book) ≡ 0
     bill-taken t u = asked.accepted_where_none_fits.bills v q book (right t u)
@@ -507,10 +507,10 @@ module _ (v : View) (book : List ℕ) where
     rebill-by-8 = let law = asked.number_eight.rebills v q book in (λ e. given-amounts (law.0 e), λ t. law.1 (amounts-given t))
 
     -- the most kWh
-    pub bill-kwh : refusal rules v (Call.Bill q with book) ≡ 0 → q.kwh ≤ most_kwh_given
+    pub bill-kwh : refusal rules v (Call.Bill q with book) ≡ 0 → q.kwh ≤ 40000000
     bill-kwh = asked.largest_bill.bills v q book
 
-    pub rebill-kwh : refusal rules v (Call.Rebill q with book) ≡ 0 → q.kwh ≤ most_kwh_given
+    pub rebill-kwh : refusal rules v (Call.Rebill q with book) ≡ 0 → q.kwh ≤ 40000000
     rebill-kwh = asked.largest_bill.rebills v q book
 
   pub no-cert-by-15 : (c class effective : ℕ) → refusal rules v (Call.Cert c class effective with book) ≡ 15 → ⊥
@@ -519,13 +519,13 @@ module _ (v : View) (book : List ℕ) where
   pub no-cancel-by-15 : (c first : ℕ) → refusal rules v (Call.Cancel c first with book) ≡ 15 → ⊥
   no-cancel-by-15 c first = (asked.number_fifteen v (Call.Cancel c first with book)).0
 
--- 8: kWh above the most that a bill may give, S or WAP above 999,999, or a WAP that isn't 0 where the contract isn't flexible
+-- 8: kWh above 40,000,000, S or WAP above 999,999, or a WAP that isn't 0 where the contract isn't flexible
 pub wrong-amounts : (k : Contract) (q : Request)
-    → bad_amounts k q ≡ ltb most_kwh_given q.kwh || (ltb 999999 q.supply || (ltb 999999 q.wap || (not (is_flexible k.kind) && not (eqb q.wap 0))))
+    → bad_amounts k q ≡ ltb 40000000 q.kwh || (ltb 999999 q.supply || (ltb 999999 q.wap || (not (is_flexible k.kind) && not (eqb q.wap 0))))
 unfolding bad_amounts
 wrong-amounts k q = refl
 
-pub larger-wrong : (k : Contract) (q : Request) → most_kwh_given < q.kwh → bad_amounts k q ≡ true
+pub larger-wrong : (k : Contract) (q : Request) → 40000000 < q.kwh → bad_amounts k q ≡ true
 larger-wrong = asked.largest_bill.larger
 
 -- 9 and 10: a bill of the contract with that first day, and one that shares a day with the span
@@ -560,10 +560,10 @@ pub any_kwh : (k : Contract) (b : Bill) → bill_ok k b ≡ true → (kwh etii q
 any_kwh = asked.ranges_kept.any_kwh
 
 pub larger-rows-stored : (b : List ℕ) → Formed b → (h : List CallWithBook)
-    → All (λ x. most_kwh_given < x.bill.kwh → Memᴰ x.bill (map (λ y. y.bill) (facts b).rows)) (facts (run machine.step b h)).rows
+    → All (λ x. 40000000 < x.bill.kwh → Memᴰ x.bill (map (λ y. y.bill) (facts b).rows)) (facts (run machine.step b h)).rows
 larger-rows-stored = asked.larger_rows_were_stored.stored
 
-pub no-larger-row : (territory : ℕ) → territory ≤ 1 → (h : List CallWithBook) → All (λ x. x.bill.kwh ≤ most_kwh_given) (facts (state_after machine territory h)).rows
+pub no-larger-row : (territory : ℕ) → territory ≤ 1 → (h : List CallWithBook) → All (λ x. x.bill.kwh ≤ 40000000) (facts (state_after machine territory h)).rows
 no-larger-row = asked.larger_rows_were_stored.none
 
 -- ---- number 2

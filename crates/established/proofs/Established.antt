@@ -17,6 +17,7 @@ use Rattle.model.proofs.NumberFifteen.{number_fifteen}
 use Rattle.model.proofs.NumberEight.{number_eight}
 use Rattle.model.proofs.LargestBill.{largest_bill}
 use Rattle.model.proofs.QuarterExample.{quarter_example}
+use Rattle.model.proofs.LargerRowsExample.{larger_rows_example}
 use Rattle.model.proofs.StoredEarlier.{stored_earlier}
 use Rattle.model.proofs.Postings.{floor_leaves_rest}
 use Rattle.layout.proofs.Theorems.{packed_size, fresh_ledger, round_trips, claims_kept, amounts_kept, demand_three, stored_ledgers_balance, stored_ledgers_answer, packed_histories_hold_their_facts, packed_answers_from_the_sheet, packed_same_as_postings, amend_alters_no_row, larger_rows_were_stored, number_two_first, number_two_meets_no_call}
@@ -66,6 +67,7 @@ all-established = record {
   round_trips = round_trips;
   ranges_kept = ranges_kept;
   quarter_example = quarter_example;
+  larger_rows_example = larger_rows_example;
   stored_earlier = stored_earlier;
   claims_kept = claims_kept;
   rows_in_order = rows_in_order;

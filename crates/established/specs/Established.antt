@@ -19,6 +19,7 @@ use Rattle.model.specs.NumberFifteen.{NumberFifteen}
 use Rattle.model.specs.NumberEight.{NumberEight}
 use Rattle.model.specs.LargestBill.{LargestBill}
 use Rattle.model.specs.QuarterExample.{QuarterExample}
+use Rattle.model.specs.LargerRowsExample.{LargerRowsExample}
 use Rattle.model.specs.StoredEarlier.{StoredEarlier}
 use Rattle.model.specs.Postings.{FloorLeavesRest}
 use Rattle.layout.specs.RowsInOrder.{RowsInOrder}
@@ -69,6 +70,7 @@ pub record Established : Type 0 where
   pub round_trips : RoundTrips
   pub ranges_kept : RangesKept
   pub quarter_example : QuarterExample
+  pub larger_rows_example : LargerRowsExample
   pub stored_earlier : StoredEarlier
   pub claims_kept : ClaimsKept
   pub rows_in_order : RowsInOrder

@@ -53,7 +53,8 @@ pub record DemandThree : Type 0 where
   pub last_claim : EveryAcceptedClaimLeavesRest rules machine
 
 -- demand 3 from a stored ledger on, whose own rows begin the sheet: a well-formed one that balances with the answers to its earlier calls goes
--- on balancing, also where the rules in force would turn such calls down, as bills across months
+-- on balancing, also where the rules in force would turn such calls down, as bills across months and of more than
+-- 40,000,000 kWh
 abbrev pub StoredLedgersBalance : Type 0
 StoredLedgersBalance = StoredBalanceGoesOn rules machine Formed
 
@@ -81,8 +82,8 @@ pub record AmendAltersNoRow : Type 0 where
   -- and in every history it changes no bill's part of due
   pub parts : EveryAmendKeepsParts rules
 
--- no call makes a row of more than the most kWh that a bill may give: after calls on a stored ledger each such row has the bill of one that it had,
--- and after a history there is none
+-- no call makes a row of more than 40,000,000 kWh: after calls on a stored ledger each such row has the bill of one that it had, and after a history
+-- there is none
 pub record LargerRowsWereStored : Type 0 where
   pub stored : LargerRowsStoodBefore machine Formed
   pub none : NoLargerRow machine

@@ -23,10 +23,11 @@ new_minimum_day = 792
 abbrev pub highest_price : ℕ
 highest_price = 999999
 
--- the most kWh that a bill or rebill may give, and that a row of a well-formed ledger may have
+-- of paper 6, "Bill and rebill now take at most 40,000,000"
 abbrev pub most_kwh_given : ℕ
-most_kwh_given = 100000000
+most_kwh_given = 40000000
 
+-- of paper 6, "A stored row up to 100,000,000 is still well formed"
 abbrev pub most_kwh_stored : ℕ
 most_kwh_stored = 100000000
 

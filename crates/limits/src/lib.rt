@@ -20,7 +20,7 @@ pub const NEW_MINIMUM_DAY: u32 = 792;
 pub const HIGHEST_PRICE: u32 = 999999;
 
 // The most kWh that a bill or rebill may give.
-pub const MOST_KWH_GIVEN: u32 = 100000000;
+pub const MOST_KWH_GIVEN: u32 = 40000000;
 
 // The most kWh that a stored row may have.
 pub const MOST_KWH_STORED: u32 = 100000000;

@@ -14,9 +14,9 @@ unfolding refusal tests requested_bill
 accepted_where_none_fits = record {
   opens = λ v c fuel kind fix entry book number new good days. rw (number, new, good, days);
   bills = λ v q book r free room.
-      rw (r.right.prices, r.right.number, r.right.opened, r.right.days, r.months, r.inside, r.amounts, r.shares, free, r.priced, lt-leb row_count (v.held (λ x. true)) room);
+      rw (r.span.right.prices, r.span.right.number, r.span.right.opened, r.span.right.days, r.span.months, r.span.inside, r.amounts, r.shares, free, r.priced, lt-leb row_count (v.held (λ x. true)) room);
   rebills = λ v q book r held free.
-      rw (r.right.prices, r.right.number, r.right.opened, r.right.days, r.months, r.inside, r.amounts, r.shares, yes_lt 0 (v.held (named q.contract q.first)) held, free, r.priced);
+      rw (r.span.right.prices, r.span.right.number, r.span.right.opened, r.span.right.days, r.span.months, r.span.inside, r.amounts, r.shares, yes_lt 0 (v.held (named q.contract q.first)) held, free, r.priced);
   certificates = λ v c class effective book number opened good days. rw (number, opened, good, days);
   cancellations = λ v c first book number opened held. rw (number, opened, yes_lt 0 (v.held (named c first)) held);
   claims = λ v book few. rw (lt-leb most_claims v.claims few);

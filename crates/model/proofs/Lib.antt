@@ -32,7 +32,9 @@ pub mod AcceptedCalls
 pub mod NumberFifteen
 pub mod NumberEight
 pub mod LargestBill
+pub mod StoredExample
 pub mod QuarterExample
+pub mod LargerRowsExample
 pub mod StoredEarlier
 pub mod BookEntries
 pub mod BoundaryExamples

@@ -1,5 +1,5 @@
 -- Document 01, "Turned down, in checking order": a call that none of its own tests fits is accepted, whatever rows are held. So rows across
--- months "still take certificates and cancellation", as paper 2 of document 02 has it. Assumes nothing.
+-- months "still take certificates and cancellation", as paper 2 of document 02 has it, and so do paper 6's larger rows. Assumes nothing.
 use Rattle.std.specs.Prelude.{◌≡◌, true, false, not, ◌&&◌, List, ℕ, ◌<◌}
 use Rattle.rates.specs.declared.Contract.{Contract}
 use Rattle.rates.specs.TermsTaken.{terms_for, crosses_end}
@@ -32,11 +32,9 @@ pub record RightSpan (v : View) (q : Request) (book : List ℕ) : Type 0 where
   pub months : bad_months (contract_named v q).kind q.first q.last ≡ false
   pub inside : crosses_end (contract_named v q).amendment q.first q.last ≡ false
 
--- a request that 15, 17, 8 and 14 let pass too, and whose price isn't 0 where it is needed (11)
+-- a request that 8 and 14 let pass too, and whose price isn't 0 where it is needed (11)
 pub record RightNumbers (v : View) (q : Request) (book : List ℕ) : Type 0 where
-  pub right : RightContractAndDays v q book
-  pub months : bad_months (contract_named v q).kind q.first q.last ≡ false
-  pub inside : crosses_end (contract_named v q).amendment q.first q.last ≡ false
+  pub span : RightSpan v q book
   pub amounts : bad_amounts (contract_named v q) q ≡ false
   pub shares : bad_shares q.kwh q.etii q.qhs ≡ false
   pub priced : no_price (contract_named v q).kind (reference (terms_for (contract_named v q) q.first) q.first q.wap book) ≡ false

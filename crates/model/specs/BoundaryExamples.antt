@@ -1,5 +1,5 @@
--- Document 01, "Turned down, in checking order", with numbers 14 of paper 1, 15 of paper 2 and 16 to 18 of paper 5: calls on either side of the limits, with the
--- number that turns each down, 0 where none does. Assumes nothing.
+-- Document 01, "Turned down, in checking order", with numbers 14 of paper 1, 15 of paper 2 and 16 to 18 of paper 5, and paper 6's limit of number 8: calls on
+-- either side of the limits, with the number that turns each down, 0 where none does. Assumes nothing.
 use Rattle.std.specs.Prelude.{◌≡◌, Bool, true, List, [], ◌∷◌, ◌++◌, map, ℕ, eqb, replicate}
 use Rattle.basics.specs.Tests.{every}
 use Rattle.basics.specs.Lists.{All}
@@ -196,13 +196,23 @@ at_number18 =
     ∷ (Call.Amend 0 486 0 0 with [] on amended gives 18)
     ∷ []
 
--- 8: kWh is above 100,000,000, S or WAP above 999,999, or a WAP not 0 where it must be
+-- so many kWh at the highest prices, billed, and billed again in place of a row
+unfoldable pub kwh_gives : (kwh number : ℕ) → List Boundary
+kwh_gives kwh number =
+    (Call.Bill (request_of 0 486 499 kwh 999999 999999 0 0) with zero_book on britain gives number)
+    ∷ (Call.Rebill (request_of 0 500 510 kwh 999999 999999 0 0) with zero_book on britain gives number)
+    ∷ []
+
+-- 8: kWh is above 40,000,000, S or WAP above 999,999, or a WAP not 0 where it must be
 unfoldable pub at_number8 : List Boundary
 at_number8 =
-    (Call.Bill (request_of 0 486 499 100000001 1 1 0 0) with zero_book on britain gives 8)
-    ∷ (Call.Bill (request_of 0 486 499 1 1000000 1 0 0) with zero_book on britain gives 8)
+    kwh_gives 0 0
+    ++ kwh_gives 40000000 0
+    ++ kwh_gives 40000001 8
+    ++ kwh_gives 100000000 8
+    ++ kwh_gives 4294967295 8
+    ++ (Call.Bill (request_of 0 486 499 1 1000000 1 0 0) with zero_book on britain gives 8)
     ∷ (Call.Bill (request_of 0 486 499 1 1 1000000 0 0) with zero_book on britain gives 8)
-    ∷ (Call.Bill (request_of 0 486 499 100000000 999999 999999 0 0) with zero_book on britain gives 0)
     ∷ (Call.Bill (request_of 1 486 515 1 1 1 0 0) with april on britain gives 8)
     ∷ (Call.Bill (request_of 0 486 515 1 1 1 0 0) with priced_at 5 on fixed_and_index gives 8)
     ∷ (Call.Bill (request_of 1 486 515 1 1 1 0 0) with priced_at 1728 on fixed_and_index gives 8)
@@ -282,25 +292,25 @@ in_checking_order =
     ∷ (Call.Open 2 2 0 852 0 with [] on britain gives 6)
     ∷ (Call.Cert 2 3 852 with [] on britain gives 5)
     ∷ (Call.Cert 0 3 852 with [] on britain gives 6)
-    ∷ (Call.Bill (request_of 0 485 499 100000001 1 1 0 0) with zero_book on britain gives 7)
+    ∷ (Call.Bill (request_of 0 485 499 40000001 1 1 0 0) with zero_book on britain gives 7)
     ∷ (Call.Bill (request_of 1 486 576 1 1 0 0 0) with (replicate 1739 0) on britain gives 3)
     ∷ (Call.Bill (request_of 64 486 576 1 1 0 0 0) with zero_book on britain gives 4)
     ∷ (Call.Bill (request_of 2 486 576 1 1 0 0 0) with zero_book on britain gives 5)
     ∷ (Call.Bill (request_of 1 485 516 1 1 0 0 0) with zero_book on britain gives 7)
     ∷ (Call.Bill (request_of 1 547 4294967295 1 1 0 0 0) with zero_book on britain gives 7)
     ∷ (Call.Rebill (request_of 1 516 515 1 1 0 0 0) with zero_book on britain gives 7)
-    ∷ (Call.Bill (request_of 1 486 516 100000001 1 1 4294967295 0) with zero_book on sheet_of_bills 1024 gives 15)
-    ∷ (Call.Rebill (request_of 1 487 516 100000001 1 1 4294967295 0) with zero_book on sheet_of_bills 1 gives 15)
+    ∷ (Call.Bill (request_of 1 486 516 40000001 1 1 4294967295 0) with zero_book on sheet_of_bills 1024 gives 15)
+    ∷ (Call.Rebill (request_of 1 487 516 40000001 1 1 4294967295 0) with zero_book on sheet_of_bills 1 gives 15)
     ∷ (Call.Bill (request_of 1 600 4294967295 1 1 0 0 0) with zero_book on amended gives 7)
-    ∷ (Call.Bill (request_of 1 600 601 100000001 1 1 4294967295 0) with zero_book on amended gives 17)
-    ∷ (Call.Rebill (request_of 1 591 601 100000001 1 1 4294967295 0) with zero_book on amended gives 17)
+    ∷ (Call.Bill (request_of 1 600 601 40000001 1 1 4294967295 0) with zero_book on amended gives 17)
+    ∷ (Call.Rebill (request_of 1 591 601 40000001 1 1 4294967295 0) with zero_book on amended gives 17)
     ∷ (Call.Amend 64 485 852 852 with [] on amended gives 4)
     ∷ (Call.Amend 3 485 852 852 with [] on amended gives 5)
     ∷ (Call.Amend 1 485 852 852 with [] on amended gives 16)
     ∷ (Call.Amend 2 485 852 852 with [] on amended gives 16)
     ∷ (Call.Amend 0 486 852 0 with [] on amended gives 7)
-    ∷ (Call.Rebill (request_of 0 501 501 100000001 1 1 4294967295 0) with zero_book on britain gives 8)
-    ∷ (Call.Bill (request_of 0 486 499 100000001 1 1 4294967295 0) with zero_book on britain gives 8)
+    ∷ (Call.Rebill (request_of 0 501 501 40000001 1 1 4294967295 0) with zero_book on britain gives 8)
+    ∷ (Call.Bill (request_of 0 486 499 40000001 1 1 4294967295 0) with zero_book on britain gives 8)
     ∷ (Call.Rebill (request_of 0 501 501 1 1 1 1 1) with zero_book on britain gives 14)
     ∷ (Call.Bill (request_of 1 486 486 1 1 0 2 0) with zero_book on sheet_of_bills 1024 gives 14)
     ∷ (Call.Rebill (request_of 0 501 501 1 1 1 0 0) with zero_book on britain gives 9)

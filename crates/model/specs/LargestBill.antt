@@ -1,4 +1,5 @@
--- The most kWh that a bill or rebill may give: more fits number 8, and no call makes a larger row. Assumes nothing.
+-- Document 02, paper 6: "Bill and rebill now take at most 40,000,000, refused by 8 as before." What a call may give, and that no call makes a larger
+-- row. Assumes nothing.
 use Rattle.std.specs.Prelude.{◌≡◌, true, ℕ, ◌<◌, ◌≤◌}
 use mathlib.Core.List.{List, map, Memᴰ}
 use Rattle.limits.specs.Limits.{most_kwh_given}
@@ -11,14 +12,14 @@ use Rattle.model.specs.PresentRules.{bad_amounts}
 use Rattle.model.specs.History.{run, Machine, state_after}
 use Rattle.model.specs.AcceptedCalls.{Accepted}
 
--- what is accepted gives no more than the most kWh that a bill may give, and more fits the test of number 8, whatever else is given
+-- what is accepted gives at most 40,000,000 kWh, and more fits the test of number 8, whatever else is given
 pub record LargestBill : Type 0 where
   pub bills : (v : View) (q : Request) (book : List ℕ) → Accepted v (Call.Bill q) book → q.kwh ≤ most_kwh_given
   pub rebills : (v : View) (q : Request) (book : List ℕ) → Accepted v (Call.Rebill q) book → q.kwh ≤ most_kwh_given
   pub larger : (k : Contract) (q : Request) → most_kwh_given < q.kwh → bad_amounts k q ≡ true
 
--- of a machine, from any good state on: each row of more than the most kWh that a bill may give that is held after a list of calls has the bill of a
--- row that was held before it
+-- of a machine, from any good state on: each row of more than 40,000,000 kWh that is held after a list of calls has the bill of a row that was held
+-- before it
 abbrev pub LargerRowsStoodBefore : (m : Machine) → (good : m.State → Type 0) → Type 0
 LargerRowsStoodBefore m good = (s : m.State) → good s → (h : List CallWithBook) →
     All (λ x. most_kwh_given < x.bill.kwh → Memᴰ x.bill (map (λ y. y.bill) (m.facts s).rows)) (m.facts (run m.step s h)).rows

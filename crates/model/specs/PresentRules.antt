@@ -1,4 +1,4 @@
--- Document 01, "Turned down, in checking order" and the ranges of a well-formed ledger, with papers 1 to 5 of document 02: the rules in
+-- Document 01, "Turned down, in checking order" and the ranges of a well-formed ledger, with papers 1 to 6 of document 02: the rules in
 -- force. The limits are named in crate `limits`. Assumes nothing.
 use Rattle.std.specs.Prelude.{Bool, true, not, cond, ◌&&◌, ◌||◌, List, [], ◌∷◌, ◌++◌, ℕ, ◌+◌, leb, ltb, eqb, length}
 use Rattle.limits.specs.Limits.{last_day, first_scheme_day, first_qhs_day, highest_price, most_kwh_given, most_kwh_stored, book_length, contract_count, row_count, most_claims}

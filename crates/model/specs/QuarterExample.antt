@@ -1,16 +1,13 @@
 -- Document 02, paper 2: "Rows already stored stand with the price they hold, remain well formed, and still take certificates and
 -- cancellation." Two quarters that were stored under April's price, and calls on them with their answers. Assumes nothing.
-use Rattle.std.specs.Prelude.{◌≡◌, List, [], ◌∷◌, ◌++◌, map, ℕ, pos, neg_ℤ, replicate, Result, Ok, Err}
+use Rattle.std.specs.Prelude.{List, [], ◌∷◌, ◌++◌, map, ℕ, pos, neg_ℤ, replicate, Result, Ok, Err}
 use Rattle.model.specs.declared.Row.{Row}
 use Rattle.model.specs.declared.Answer.{Answer}
 use Rattle.model.specs.declared.Answer.TheVariants.{Billed, Rebilled, Certified, Cancelled, Claimed, Reported, Totalled}
 use Rattle.model.specs.declared.Call.{Call}
 use Rattle.model.specs.Calls.{CallWithBook, ◌with◌, request_of}
-use Rattle.model.specs.PresentRules.{present_rules}
-use Rattle.model.specs.Ledger.{Ledger, ledger_with_rows, step, answer}
-use Rattle.model.specs.History.{replies, state_after, ledger_machine}
-use Rattle.model.specs.WellFormed.{WellFormed}
-use Rattle.model.specs.Balance.{BalancedIn, sheet_of}
+use Rattle.model.specs.Ledger.{Ledger}
+use Rattle.model.specs.StoredExample.{ledger_with, StoredExample}
 
 -- the row of a contract's bill for April to June 2023, without shares
 abbrev pub quarter_row : (contract kwh reference supply amount : ℕ) → Row
@@ -23,7 +20,7 @@ openings = (Call.Open 5 1 1 0 0 with []) ∷ (Call.Open 6 0 3 0 0 with []) ∷ [
 
 -- a Northern Ireland ledger with a quarter of each: 3,000 kWh × 10 × (11,050 − 10,700) and 2,000 kWh × 10 × (32,000 − 30,200) ticks
 unfoldable pub stored_quarters : Ledger
-stored_quarters = ledger_with_rows (state_after (ledger_machine present_rules) 1 openings) (quarter_row 5 3000 11050 20000 10500000 ∷ quarter_row 6 2000 32000 60000 36000000 ∷ [])
+stored_quarters = ledger_with 1 openings (quarter_row 5 3000 11050 20000 10500000 ∷ quarter_row 6 2000 32000 60000 36000000 ∷ [])
 
 -- what was answered to the two bills: R, rate and amount (the two contracts' openings answered no numbers)
 abbrev pub earlier_answers : List (Result Answer ℕ)
@@ -66,8 +63,5 @@ quarter_answers =
     ∷ Ok (Totalled 33491000 (neg_ℤ (pos 29809000)))
     ∷ []
 
-pub record QuarterExample : Type 0 where
-  pub well_formed : WellFormed present_rules stored_quarters
-  -- it balances, so that it goes on balancing whatever calls follow
-  pub balanced : BalancedIn present_rules (ledger_machine present_rules) stored_quarters (sheet_of stored_quarters) earlier_answers
-  pub answers : replies (step present_rules) (answer present_rules) stored_quarters quarter_calls ≡ quarter_answers
+abbrev pub QuarterExample : Type 0
+QuarterExample = StoredExample stored_quarters earlier_answers quarter_calls quarter_answers

@@ -1,5 +1,5 @@
--- Document 01, "Well formed", with paper 1's shares, paper 2's rows across months and paper 5's amendments: held rows and open contracts on
--- either side of the ranges. Assumes nothing.
+-- Document 01, "Well formed", with paper 1's shares, paper 2's rows across months, paper 5's amendments and paper 6's larger rows: held rows
+-- and open contracts on either side of the ranges. Assumes nothing.
 use Rattle.std.specs.Prelude.{◌≡◌, Bool, true, false, List, [], ◌∷◌, ◌++◌, map, ℕ, ◌+◌, ◌≤◌, Option, Some, None}
 use Rattle.limits.specs.Limits.{most_kwh_stored}
 use Rattle.rates.specs.declared.Fuel.TheVariants.{Electricity}
@@ -34,9 +34,10 @@ abbrev pub amended_bill : (original_end_day_of first last : ℕ) → Bool → He
 amended_bill end first last kept =
     record { kind = Fixed 0 0; amendment = Some (record { original_end_day = end; price_fix_day = 0; entry_day = 0 }); first = first; last = last; kwh = 1; etii = 0; qhs = 0; reference = 1; supply = 1; kept = kept }
 
--- "486 ≤ first ≤ last ≤ 851", kWh at most 100,000,000, R and S at most 999,999, "R 0 only for flexible"; of paper 1, "A
+-- "486 ≤ first ≤ last ≤ 851", R and S at most 999,999, "R 0 only for flexible"; of paper 1, "A
 -- well-formed row's shares don't exceed its kWh"; of paper 2, rows of variable and index contracts across two months, a quarter and all of
--- the scheme "remain well formed"; of paper 5, "no row of an amended contract crosses its original end"
+-- the scheme "remain well formed"; of paper 5, "no row of an amended contract crosses its original end"; of paper 6, "A stored row up to
+-- 100,000,000 is still well formed", without shares and with them
 unfoldable pub held_bills : List HeldBill
 held_bills =
     held_bill (Fixed 0 0) 486 851 100000000 0 0 999999 999999 true

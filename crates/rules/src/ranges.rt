@@ -1,4 +1,4 @@
-// The ranges of document 01 and of papers 1, 2 and 5: the tests of what a call gives, and of what a well-formed ledger holds.
+// The ranges of document 01 and of papers 1, 2, 5 and 6: the tests of what a call gives, and of what a well-formed ledger holds.
 ghost use Rattle.std.specs.Prelude.{◌≡◌};
 ghost use Rattle.rates.specs.TermsTaken.{crosses_end};
 ghost use Rattle.model.specs.PresentRules.{bad_kind, bad_class, bad_days, bad_effective, bad_amendment_days, bad_amendment, not_amendable, bad_span, bad_months, bad_amounts, bad_shares, contract_ranges, bill_ok};

@@ -2,6 +2,8 @@
 //! many rows as asked for, every fourth of a contract's with shares. A row has one day, so that no
 //! change is inside it.
 
+use calculator::codes::MOST_KWH_GIVEN;
+
 use crate::both_ledgers::BothLedgers;
 
 /// The contract with a quarter of the rows: fixed, electricity, without a certificate.
@@ -82,7 +84,7 @@ fn open(ledgers: &mut BothLedgers, contract: u32) {
 /// The numbers of a contract's bill for one day.
 pub fn bill_numbers(contract: u32, day: u32) -> twin::BillNumbers {
     let place = 1_024 * contract + day;
-    let kwh = varied(place, 0, 100_000_000);
+    let kwh = kwh(place);
     let (etii_share, qhs_share) = shares(day, kwh);
     twin::BillNumbers {
         contract,
@@ -105,6 +107,11 @@ fn shares(day: u32, kwh: u32) -> (u32, u32) {
         0 => (kwh / 4, kwh / 2),
         _ => (0, 0),
     }
+}
+
+/// The kWh of a bill for a place in the ledger, below the most that a bill is given.
+pub fn kwh(place: u32) -> u32 {
+    varied(place, 0, MOST_KWH_GIVEN)
 }
 
 /// A price for a place in the book or ledger, from below the lowest support price to above the

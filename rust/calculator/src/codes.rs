@@ -1,7 +1,7 @@
 //! Codes of territories, fuels, kinds and classes, and the ranges of days, kWh, prices and
 //! shares (document 01, sections "Contracts and the price book" and "Turned down, in
-//! checking order", numbers 6 to 8; document 02, paper 1, number 14, paper 2, number 15, and
-//! paper 5, numbers 7, 16 and 17).
+//! checking order", numbers 6 to 8; document 02, paper 1, number 14, paper 2, number 15,
+//! paper 5, numbers 7, 16 and 17, and paper 6, number 8).
 
 use crate::dates::{scheme_month, LAST_DAY};
 use crate::rates::{Amendment, Certificate, Contract, Fuel, Kind};
@@ -20,8 +20,12 @@ pub const SCHEME_FIRST_DAY: u32 = 486;
 /// The number of 26 April 2023, the earliest effective day of a QHS certificate.
 pub const QHS_FIRST_DAY: u32 = 511;
 
-/// The most kWh of a bill.
-pub const MOST_KWH: u32 = 100_000_000;
+/// Number 8: the most kWh that a bill or rebill may be given.
+pub const MOST_KWH_GIVEN: u32 = 40_000_000;
+
+/// The most kWh of a held row; one stored earlier may have more than a bill is given (document
+/// 02, paper 6).
+pub const MOST_KWH_STORED: u32 = 100_000_000;
 
 /// The highest price in mils.
 pub const HIGHEST_PRICE: u32 = 999_999;

@@ -8,7 +8,7 @@
 //! Discount Scheme: Guidance for Licensed Energy Suppliers (Great Britain and Northern
 //! Ireland)*, version 1.1, last updated 22 September 2023. "Document 01" is the product's
 //! scope, which gives the units, the day numbers and the house rules; "document 02" has the
-//! changes to it, of which papers 1 to 5 are in force. Where the guidance's prose and the
+//! changes to it, of which papers 1 to 6 are in force. Where the guidance's prose and the
 //! formula that it quotes from Regulation 29 differ, the formula decides.
 
 mod bits;

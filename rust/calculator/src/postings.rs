@@ -2,14 +2,14 @@
 //! adds the postings up. It answers the calls of document 01, section "Calls", and amend of
 //! document 02, paper 5. It refuses by numbers 3 to 13 of document 01, section "Turned down, in
 //! checking order", and numbers 14 to 18 of document 02, papers 1, 2 and 5. Amounts are those of
-//! its paper 3.
+//! its paper 3, and the most kWh of a bill or rebill that of its paper 6.
 
 use crate::book;
 use crate::calls::{BillNumbers, Call, Outcome};
 use crate::codes::{
     amendment_days_in_range, contract_days_in_range, crosses_original_end, effective_day_in_range,
     kind_in_its_place, may_be_amended, shares_exceed_kwh, span_in_range, spans_share_a_day,
-    touches_two_months, Territory, HIGHEST_PRICE, MOST_KWH,
+    touches_two_months, Territory, HIGHEST_PRICE, MOST_KWH_GIVEN,
 };
 use crate::facts::{Facts, Row, CONTRACTS, MOST_CLAIMS, MOST_ROWS};
 use crate::rates::{self, Amendment, Bill, Certificate, Contract, Fuel, Kind};
@@ -332,7 +332,7 @@ fn bill_numbers_in_range(kind: Kind, numbers: BillNumbers) -> bool {
         Kind::Flexible => HIGHEST_PRICE,
         Kind::Fixed { .. } | Kind::Variable | Kind::DayAheadIndex => 0,
     };
-    numbers.kwh <= MOST_KWH && numbers.supply <= HIGHEST_PRICE && numbers.wap <= highest_wap
+    numbers.kwh <= MOST_KWH_GIVEN && numbers.supply <= HIGHEST_PRICE && numbers.wap <= highest_wap
 }
 
 /// Number 11: R, from the book or, of a flexible contract, WAP.

@@ -4,7 +4,8 @@
 //!
 //! Prices are in mils, thousandths of a penny per kWh; rates are in ticks, ten-thousandths
 //! of a penny per kWh (document 01, section "Prices per kWh"). Supply prices and reference
-//! wholesale prices are 0 to 999,999 mils and consumption is 0 to 100,000,000 kWh.
+//! wholesale prices are 0 to 999,999 mils and consumption is 0 to 100,000,000 kWh, which a stored
+//! row may have (document 02, paper 6).
 
 /// The fuels; one contract supplies one of them (guidance, section 3.2).
 #[derive(Clone, Copy, Debug, PartialEq, Eq)]

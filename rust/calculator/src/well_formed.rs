@@ -1,10 +1,10 @@
 //! The well-formed ledgers: one function for each clause of document 01, section "The packed
-//! ledger", paragraph "Well formed", and of document 02, papers 1, 3 and 5. The clause on the
+//! ledger", paragraph "Well formed", and of document 02, papers 1, 3, 5 and 6. The clause on the
 //! length stands with `packed::unpack`.
 
 use crate::codes::{
     amendment_days_in_range, contract_days_in_range, crosses_original_end, effective_day_in_range,
-    kind_in_its_place, shares_exceed_kwh, span_in_range, Territory, HIGHEST_PRICE, MOST_KWH,
+    kind_in_its_place, shares_exceed_kwh, span_in_range, Territory, HIGHEST_PRICE, MOST_KWH_STORED,
 };
 use crate::dates::LAST_DAY;
 use crate::facts::{CONTRACTS, MOST_CLAIMS};
@@ -89,11 +89,12 @@ fn only_fixed_contracts_are_amended(ledger: &LedgerNumbers) -> bool {
     contracts.all(|contract| contract.amendment.is_none() || contract.kind.is_fixed())
 }
 
-/// The ranges of numbers 7 and 8 of bill, which R keeps too.
+/// The days of number 7 of bill, and the prices of its number 8, which R keeps too. The kWh may be
+/// more than number 8 lets a bill have.
 fn held_rows_keep_their_ranges(ledger: &LedgerNumbers) -> bool {
     ledger.held_rows().all(|row| {
         span_in_range(row.first_day, row.last_day)
-            && row.kwh <= MOST_KWH
+            && row.kwh <= MOST_KWH_STORED
             && row.reference_price <= HIGHEST_PRICE
             && row.supply_price <= HIGHEST_PRICE
     })

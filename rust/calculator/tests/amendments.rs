@@ -511,14 +511,14 @@ fn the_first_number_that_fits_refuses_an_amendment() {
 
 /// Lines whose last day is 600 or 601, each with the number that refuses it where it is 600.
 const REFUSED_LATER: [(&str, u32); 14] = [
-    ("bill 2 599 LAST 100000001 1 0 100000001 1", 8),
+    ("bill 2 599 LAST 40000001 1 0 40000001 1", 8),
     ("bill 2 599 LAST 1 1000000 0 1 1", 8),
     ("bill 3 599 LAST 1 1 1 1 1", 8),
     ("bill 2 599 LAST 1 1 0 1 1", 14),
     ("bill 3 599 LAST 1 1 0 4294967295 1", 14),
     ("bill 2 599 LAST 1 1 0 0 0", 10),
     ("bill 3 599 LAST 1 1 0 0 0", 11),
-    ("rebill 2 598 LAST 100000001 1 0 100000001 1", 8),
+    ("rebill 2 598 LAST 40000001 1 0 40000001 1", 8),
     ("rebill 2 598 LAST 1 1 1 1 1", 8),
     ("rebill 2 598 LAST 1 1 0 1 1", 14),
     ("rebill 2 598 LAST 1 1 0 0 0", 9),

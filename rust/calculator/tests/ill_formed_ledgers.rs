@@ -1,5 +1,5 @@
 //! Ledgers that break one clause of document 01's paragraph "Well formed" or of document 02,
-//! papers 1, 3 and 5, each, beside neighbours that keep it.
+//! papers 1, 3, 5 and 6, each, beside neighbours that keep it.
 
 mod common;
 mod paper_run;
@@ -387,8 +387,12 @@ fn every_held_row_has_kwh_and_prices_in_range() {
             (row.kwh, row.reference_price, row.supply_price) = (kwh, reference_price, 0);
         })
     };
-    assert!(edited(100_000_000, 999_999));
-    assert!(!edited(100_000_001, 999_999));
+    for kwh in [40_000_000, 40_000_001, 99_999_999, 100_000_000] {
+        assert!(edited(kwh, 999_999), "{kwh}");
+    }
+    for kwh in [100_000_001, 134_217_727] {
+        assert!(!edited(kwh, 999_999), "{kwh}");
+    }
     assert!(!edited(100_000_000, 1_000_000));
     assert!(row_is_well_formed(|row| row.supply_price = 999_999));
     assert!(!row_is_well_formed(|row| row.supply_price = 1_000_000));
@@ -408,6 +412,8 @@ fn the_shares_of_a_held_row_do_not_exceed_its_kwh() {
         (0, 0, 1, false),
         (1_000, highest, 1, false),
         (1_000, 1, highest, false),
+        (40_000_001, 20_000_000, 20_000_001, true),
+        (40_000_001, 20_000_001, 20_000_001, false),
         (100_000_000, 50_000_000, 50_000_000, true),
         (100_000_000, 50_000_000, 50_000_001, false),
         (100_000_000, highest, highest, false),

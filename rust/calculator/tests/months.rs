@@ -152,7 +152,7 @@ fn a_wrong_day_is_refused_before_two_months() {
             "4294967295 486",
             "4294967295 4294967295",
         ] {
-            let numbers = format!("{contract} {span} 100000001 1000000 1 100000001 1");
+            let numbers = format!("{contract} {span} 40000001 1000000 1 40000001 1");
             desk.expect_refusal(&format!("bill {numbers}"), 7);
             desk.expect_refusal(&format!("rebill {numbers}"), 7);
         }
@@ -175,7 +175,7 @@ fn the_book_and_the_contract_are_tested_before_two_months() {
 /// Lines whose last day is 515 or 516, each with the number that refuses it where it is 515.
 /// The days 514 and 515 have a row each of contracts 0 and 2, and no price is published.
 const REFUSED_LATER: [(&str, u32); 19] = [
-    ("bill 0 514 LAST 100000001 1 0 100000001 1", 8),
+    ("bill 0 514 LAST 40000001 1 0 40000001 1", 8),
     ("bill 1 514 LAST 1 1000000 0 1 1", 8),
     ("bill 2 514 LAST 1 1 1 1 1", 8),
     ("bill 0 514 LAST 1 1 0 1 1", 14),
@@ -183,7 +183,7 @@ const REFUSED_LATER: [(&str, u32); 19] = [
     ("bill 0 514 LAST 1 1 0 0 0", 10),
     ("bill 2 514 LAST 1 1 0 0 0", 10),
     ("bill 1 514 LAST 1 1 0 0 0", 11),
-    ("rebill 0 513 LAST 100000001 1 0 100000001 1", 8),
+    ("rebill 0 513 LAST 40000001 1 0 40000001 1", 8),
     ("rebill 1 513 LAST 1 1000000 0 1 1", 8),
     ("rebill 2 513 LAST 1 1 1 1 1", 8),
     ("rebill 0 513 LAST 1 1 0 1 1", 14),

@@ -2,12 +2,15 @@
 
 mod common;
 mod paper_run;
+mod stored_rows;
 
 use calculator::codes::Territory;
 use calculator::packed::{call_on_bytes, pack, unpack, Facts, LEDGER_BYTES};
 use calculator::postings::PostingModule;
+use calculator::rates::Bill;
 use common::call;
 use paper_run::paper_run;
+use stored_rows::with_edited_bills;
 
 const NO_PRICES: [u32; 1_740] = [0; 1_740];
 
@@ -103,20 +106,23 @@ fn the_flag_stands_before_the_lowest_and_the_highest_days() {
     }
 }
 
-/// 1,024 rows of the most kWh at the highest prices under 64 contracts, added in descending
-/// order; a share has all kWh or none.
+/// 1,024 rows of the most kWh that a ledger stores, at the highest prices, under 64 contracts,
+/// added in descending order as bills of 1 kWh; a share has all kWh or none.
 fn full_ledger() -> Facts {
     let mut lines = Vec::new();
     for contract in (0..64).rev() {
         lines.push(format!("open {contract} 1 2 0 0"));
         lines.push(format!("cert {contract} 2 511"));
-        let bill =
-            |(day, shares)| format!("bill {contract} {day} {day} 100000000 999999 999999 {shares}");
-        let shares = ["0 0", "100000000 0", "0 100000000"].into_iter().cycle();
+        let bill = |(day, shares)| format!("bill {contract} {day} {day} 1 999999 999999 {shares}");
+        let shares = ["0 0", "1 0", "0 1"].into_iter().cycle();
         lines.extend((792..808).rev().zip(shares).map(bill));
     }
     let lines: Vec<&str> = lines.iter().map(String::as_str).collect();
-    facts_after(&lines)
+    with_edited_bills(&facts_after(&lines), |bill: &mut Bill| {
+        for kwh in [&mut bill.kwh, &mut bill.etii_share, &mut bill.qhs_share] {
+            *kwh *= 100_000_000;
+        }
+    })
 }
 
 #[test]
@@ -137,6 +143,8 @@ fn unpacking_then_packing_gives_the_bytes() {
 fn packing_then_unpacking_gives_the_facts() {
     let mut facts = full_ledger();
     assert_eq!(facts.rows.len(), 1_024);
+    // 10 × (999,999 − 6,500) ticks a kWh
+    assert_eq!(facts.rows[0].amount, 100_000_000 * 9_934_990);
     facts.claims = 1_000;
     facts.pence = (1 << 47) - 1;
     assert_eq!(unpack(&pack(&facts)), Some(facts));

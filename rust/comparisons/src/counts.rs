@@ -1,11 +1,13 @@
 //! What the comparisons met: sessions, calls, refusals, rows, bills with a change inside, amended
-//! contracts, searches among rows, stored, disordered and damaged ledgers, and differences.
+//! contracts, bills of the most kWh, searches among rows, stored, disordered and damaged ledgers, and
+//! differences.
 
+use crate::call_made::CallMade;
 use crate::changes_met::{ChangesMet, FewestChanges};
 use crate::sorts::Sorts;
 use crate::{
-    amendments_met, damaged_amendments, disordered_ledgers, ledgers_stored_earlier, places_met,
-    rows_across_months, rows_met,
+    amendments_met, damaged_amendments, disordered_ledgers, larger_rows, ledgers_stored_earlier,
+    most_kwh_met, places_met, rows_across_months, rows_met,
 };
 use calculator::calls::Outcome;
 use calculator::refusals::LAST_REFUSAL;
@@ -16,8 +18,8 @@ use std::fmt::Display;
 /// disorder must be met.
 const FEWEST_MET: u64 = 100;
 
-/// How often each sort of call on rows across months must be met.
-const FEWEST_MET_ACROSS_MONTHS: u64 = 1_000;
+/// How often each sort of call on rows across months must be met, and of call on larger rows.
+const FEWEST_MET_ON_STORED_ROWS: u64 = 1_000;
 
 /// How often each sort of call on ledgers stored earlier must be met.
 const FEWEST_MET_ON_LEDGERS_STORED_EARLIER: u64 = 1_000;
@@ -53,7 +55,9 @@ pub struct Counts {
     /// The bills with a change inside.
     pub changes: ChangesMet,
     /// The amendments, and the calls on amended contracts.
-    pub amendments: Sorts,
+    amendments: Sorts,
+    /// The bills and rebills of the most kWh that they may be given, and of one more.
+    most_kwh: Sorts,
 }
 
 /// The damaged ledgers of one kind.
@@ -73,6 +77,8 @@ pub struct Findings {
     pub rows: Sorts,
     /// The calls on rows across months.
     pub rows_across_months: Sorts,
+    /// The calls on rows of more kWh than a bill is given.
+    pub larger_rows: Sorts,
     /// The calls on ledgers stored before amounts were by day.
     pub ledgers_stored_earlier: Sorts,
     /// The calls that look for rows and for places among them.
@@ -101,6 +107,7 @@ impl Counts {
             refused: BTreeMap::new(),
             changes: ChangesMet::new(fewest_changes),
             amendments: Sorts::new(amendments_met::sorts(), FEWEST_MET),
+            most_kwh: Sorts::new(most_kwh_met::sorts(), FEWEST_MET),
         }
     }
 
@@ -117,6 +124,20 @@ impl Counts {
         }
     }
 
+    /// Counts a call by the amendments and the kWh that it meets.
+    pub fn count_call(&mut self, made: &CallMade) {
+        amendments_met::count_call(&mut self.amendments, made);
+        most_kwh_met::count_call(&mut self.most_kwh, made);
+    }
+
+    /// What is counted by sort, under its title.
+    pub fn sorts(&self) -> [(&'static str, &Sorts); 2] {
+        [
+            ("amendments", &self.amendments),
+            ("most kWh", &self.most_kwh),
+        ]
+    }
+
     fn print(&self) {
         let outcomes: u64 = self.accepted.values().chain(self.refused.values()).sum();
         println!("{}: {outcomes} calls", self.side);
@@ -126,16 +147,16 @@ impl Counts {
         for (title, counts) in self.changes.met() {
             println!("  {title}: {}", listed(counts));
         }
-        println!("  amendments: {}", listed(self.amendments.met()));
+        print_sorts(&self.sorts());
     }
 
     /// What must be met and was met too few times, and how often it was.
     fn met_too_few_times(&self) -> Vec<(String, u64)> {
         let calls = self.required().into_iter();
         let calls = calls.filter(|&(_, times)| times < FEWEST_MET);
-        let amendments = self.amendments.met_too_few_times();
-        let sorts = self.changes.met_too_few_times().into_iter();
-        let sorts = sorts.chain(amendments);
+        let sorts = self.sorts().map(|(_, sorts)| sorts.met_too_few_times());
+        let changes = self.changes.met_too_few_times().into_iter();
+        let sorts = changes.chain(sorts.concat());
         let sorts = sorts.map(|(what, times)| (format!("{}: {what}", self.side), times));
         calls.chain(sorts).collect()
     }
@@ -179,7 +200,8 @@ impl Findings {
                 FEWEST_CHANGES_IN_LIBRARY,
             ),
             rows: Sorts::new(rows_met::sorts(), FEWEST_MET),
-            rows_across_months: Sorts::new(rows_across_months::sorts(), FEWEST_MET_ACROSS_MONTHS),
+            rows_across_months: Sorts::new(rows_across_months::sorts(), FEWEST_MET_ON_STORED_ROWS),
+            larger_rows: Sorts::new(larger_rows::sorts(), FEWEST_MET_ON_STORED_ROWS),
             ledgers_stored_earlier: Sorts::new(
                 ledgers_stored_earlier::sorts(),
                 FEWEST_MET_ON_LEDGERS_STORED_EARLIER,
@@ -212,9 +234,7 @@ impl Findings {
     pub fn print(&self) {
         self.program.print();
         self.library.print();
-        for (title, sorts) in self.sorts() {
-            println!("  {title}: {}", listed(sorts.met()));
-        }
+        print_sorts(&self.sorts());
         println!("damaged ledgers:");
         for (kind, counts) in &self.damages {
             let DamageCounts {
@@ -231,10 +251,11 @@ impl Findings {
     }
 
     /// What is counted by sort, under its title.
-    fn sorts(&self) -> [(&'static str, &Sorts); 6] {
+    fn sorts(&self) -> [(&'static str, &Sorts); 7] {
         [
             ("rows", &self.rows),
             ("rows across months", &self.rows_across_months),
+            ("rows of more kWh than a bill", &self.larger_rows),
             ("ledgers stored earlier", &self.ledgers_stored_earlier),
             ("searches", &self.searches),
             ("disordered ledgers", &self.disordered_ledgers),
@@ -259,6 +280,13 @@ impl Findings {
     }
 }
 
+/// Prints what was counted by sort, in a line under each title.
+fn print_sorts(sorts: &[(&str, &Sorts)]) {
+    for (title, sorts) in sorts {
+        println!("  {title}: {}", listed(sorts.met()));
+    }
+}
+
 /// The counts in one line.
 fn listed<Name: Display>(counts: impl IntoIterator<Item = (Name, u64)>) -> String {
     let items = counts.into_iter();
@@ -274,15 +302,18 @@ mod tests {
     use std::mem::swap;
 
     /// What is counted by sort.
-    const SORTS: [fn(&mut Findings) -> &mut Sorts; 8] = [
+    const SORTS: [fn(&mut Findings) -> &mut Sorts; 11] = [
         |findings| &mut findings.rows,
         |findings| &mut findings.rows_across_months,
+        |findings| &mut findings.larger_rows,
         |findings| &mut findings.ledgers_stored_earlier,
         |findings| &mut findings.searches,
         |findings| &mut findings.disordered_ledgers,
         |findings| &mut findings.damaged_amendments,
         |findings| &mut findings.program.amendments,
         |findings| &mut findings.library.amendments,
+        |findings| &mut findings.program.most_kwh,
+        |findings| &mut findings.library.most_kwh,
     ];
 
     /// Everything that must be met, met often enough.

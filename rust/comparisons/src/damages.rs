@@ -3,9 +3,11 @@
 use crate::changes_inside::amount_by_first_day;
 use crate::generator::shares_above;
 use crate::random::Random;
+use crate::rows_met::row_of;
+use calculator::codes::MOST_KWH_STORED;
 use calculator::facts::{CONTRACTS, MOST_ROWS};
 use calculator::layout::{ContractNumbers, LedgerNumbers, RowNumbers, LEDGER_BYTES};
-use calculator::packed::{pack, unpack};
+use calculator::packed::{pack, unpack, Row};
 use calculator::rates::{amount, Bill, Contract};
 
 /// A kind of damage: its ledgers are numbered from 0.
@@ -131,6 +133,10 @@ pub fn drawn_damages() -> Vec<Damage> {
         drawn_damage("unused slot not zero", unused_slot_not_zero),
         drawn_damage("padding not zero", padding_not_zero),
         drawn_damage("amount off by one", amount_off_by_one),
+        drawn_damage(
+            "kWh at or over the most, with their amount",
+            kwh_with_amount,
+        ),
         drawn_damage("amount as without shares", amount_as_without_shares),
         Damage {
             count: 2 * DRAWN,
@@ -165,7 +171,15 @@ fn limits(width: usize) -> &'static [u64] {
         10 => &[0, 1, 485, 486, 510, 511, 791, 792, 851, 852, 1_023],
         16 => &[0, 1, 999, 1_000, 1_001, 32_768, 65_535],
         20 => &[0, 1, 999_999, 1_000_000, 1_048_575],
-        27 => &[0, 1, 100_000_000, 100_000_001, 134_217_727],
+        27 => &[
+            0,
+            1,
+            40_000_000,
+            40_000_001,
+            100_000_000,
+            100_000_001,
+            134_217_727,
+        ],
         47 => &[0, 1, 1 << 46, (1 << 47) - 1],
         50 => &[0, 1, 1 << 49, (1 << 50) - 1],
         _ => unreachable!("no field has {width} bits"),
@@ -341,6 +355,19 @@ fn amount_off_by_one(random: &mut Random, ledger: &[u8], number: usize) -> Vec<u
     })
 }
 
+/// A row gets kWh at the most that a ledger stores or over it, and their amount.
+fn kwh_with_amount(random: &mut Random, ledger: &[u8], _: usize) -> Vec<u8> {
+    let mut facts = unpack(ledger).expect("a ledger is well formed before it is damaged");
+    if let Some(place) = one_if_any(random, 0..facts.rows.len()) {
+        let Row { contract, bill, .. } = facts.rows[place];
+        let kwh = random
+            .one_of(&[MOST_KWH_STORED, MOST_KWH_STORED + 1])
+            .into();
+        facts.rows[place] = row_of(&facts, contract, Bill { kwh, ..bill });
+    }
+    pack(&facts)
+}
+
 /// A row with shares gets the amount that it would have without them.
 fn amount_as_without_shares(random: &mut Random, ledger: &[u8], _: usize) -> Vec<u8> {
     with_other_amount(random, ledger, |contract, bill| {
@@ -482,6 +509,24 @@ mod tests {
             let last_value = damage.count / ROWS_PUSHED - 1;
             let damaged = (damage.damaged)(&mut random, &[0; LEDGER_BYTES], last_value);
             assert_eq!(LedgerNumbers::read(&damaged).rows[0], row, "{name}");
+        }
+    }
+
+    /// Of 100,000,000 kWh with their amount the row is well formed, and of one more it isn't.
+    #[test]
+    fn kwh_at_the_most_and_over_it_are_drawn() {
+        let mut random = Random::new(1, "kWh", 0);
+        let facts = random_facts(&mut random, Territory::GreatBritain, CHANGING, 300);
+        let mut kwh_drawn = Vec::new();
+        for _ in 0..20 {
+            let damaged = kwh_with_amount(&mut random, &pack(&facts), 0);
+            let rows = LedgerNumbers::read(&damaged).rows;
+            let kwh = rows.iter().map(|row| row.kwh).max().unwrap_or_default();
+            assert_eq!(unpack(&damaged).is_some(), kwh == 100_000_000, "{kwh}");
+            kwh_drawn.push(kwh);
+        }
+        for kwh in [100_000_000, 100_000_001] {
+            assert!(kwh_drawn.contains(&kwh), "{kwh}");
         }
     }
 

@@ -8,7 +8,9 @@ use crate::months::month_end;
 use crate::random::Random;
 use crate::rows_met::rows_of;
 use calculator::calls::{BillNumbers, Call};
-use calculator::codes::{spans_share_a_day, Territory, HIGHEST_PRICE, MOST_KWH, SCHEME_FIRST_DAY};
+use calculator::codes::{
+    spans_share_a_day, Territory, HIGHEST_PRICE, MOST_KWH_GIVEN, SCHEME_FIRST_DAY,
+};
 use calculator::dates::LAST_DAY;
 use calculator::facts::CONTRACTS;
 use calculator::packed::{Facts, Row};
@@ -67,11 +69,11 @@ pub const ON_ROWS: &Profile = &[
     (12, bill),
     (13, rebill),
     (6, rebill_of_same_span),
-    (48, cert),
+    (44, cert),
     (10, cancel),
-    (1, claim),
+    (4, claim),
     (8, report),
-    (2, total),
+    (3, total),
 ];
 
 /// Each call but start, once.
@@ -97,7 +99,7 @@ const BOUNDARY_PRICES: [u32; 14] = [
 const HIGH_SHARES: [u32; 3] = [1 << 27, 1 << 31, u32::MAX];
 
 /// Numbers that some field can't have, or only just can.
-const WILD_NUMBERS: [u32; 16] = [
+const WILD_NUMBERS: [u32; 18] = [
     0,
     1,
     2,
@@ -110,6 +112,8 @@ const WILD_NUMBERS: [u32; 16] = [
     852,
     1_023,
     1_000_000,
+    40_000_001,
+    100_000_000,
     100_000_001,
     134_217_728,
     2_147_483_648,
@@ -130,6 +134,9 @@ const ACROSS_END_ONCE_IN: usize = 4;
 
 /// One amendment in that many is of any open contract, and not of a fixed one that is unamended.
 const OTHER_AMENDMENT_ONCE_IN: usize = 6;
+
+/// One bill in that many has shares that exceed its kWh.
+const EXCEEDING_SHARES_ONCE_IN: usize = 20;
 
 /// The days of the longest bill, and of the longest among many.
 const MOST_DAYS: u32 = 40;
@@ -204,7 +211,7 @@ pub fn open(random: &mut Random, facts: &Facts) -> Call {
     }
 }
 
-fn bill(random: &mut Random, facts: &Facts) -> Call {
+pub fn bill(random: &mut Random, facts: &Facts) -> Call {
     bill_of_days(random, facts, MOST_DAYS)
 }
 
@@ -335,11 +342,7 @@ pub fn bill_numbers(
     contract: u32,
     (first, last): (u32, u32),
 ) -> BillNumbers {
-    let kwh = match random.below(8) {
-        0 => random.one_of(&[0, 1, MOST_KWH]),
-        1 => random.within(0..=MOST_KWH),
-        _ => random.within(0..=99_999),
-    };
+    let kwh = random_kwh(random);
     let (etii_share, qhs_share) = random_shares(random, kwh);
     let flexible = kind_of(facts, contract) == Some(Kind::Flexible);
     BillNumbers {
@@ -354,20 +357,36 @@ pub fn bill_numbers(
     }
 }
 
-/// The ETII share and the QHS share of a bill of that many kWh: none, either or both, at
-/// times all kWh or more.
+/// The kWh of a bill: at times the most that it may be given or one less, and seldom one more.
+fn random_kwh(random: &mut Random) -> u32 {
+    let (most, more) = (MOST_KWH_GIVEN, MOST_KWH_GIVEN + 1);
+    match random.below(8) {
+        0 => random.one_of(&[0, 1, most - 1, most, most, most, more]),
+        1 => random.within(0..=most),
+        _ => random.within(0..=99_999),
+    }
+}
+
+/// The ETII share and the QHS share of a bill of that many kWh, which at times exceed them.
 fn random_shares(random: &mut Random, kwh: u32) -> (u32, u32) {
+    if random.once_in(EXCEEDING_SHARES_ONCE_IN) {
+        let high = random.one_of(&HIGH_SHARES);
+        shares_above(random, kwh, high)
+    } else {
+        shares_within(random, kwh)
+    }
+}
+
+/// The ETII share and the QHS share of a bill of that many kWh: none, either or both, at times all
+/// kWh.
+pub fn shares_within(random: &mut Random, kwh: u32) -> (u32, u32) {
     let share = random.within(0..=kwh);
-    match random.below(20) {
+    match random.below(19) {
         0..11 => (0, 0),
         11 | 12 => (share, 0),
         13 | 14 => (0, share),
         15 | 16 => (share, random.within(0..=kwh - share)),
-        17 | 18 => random.one_of(&[(kwh, 0), (0, kwh), (share, kwh - share)]),
-        _ => {
-            let high = random.one_of(&HIGH_SHARES);
-            shares_above(random, kwh, high)
-        }
+        _ => random.one_of(&[(kwh, 0), (0, kwh), (share, kwh - share)]),
     }
 }
 
@@ -542,12 +561,23 @@ pub fn day_of_span(random: &mut Random, (first, last): (u32, u32)) -> u32 {
 
 #[cfg(test)]
 mod tests {
-    use super::{random_shares, span_beside_end, span_of_contract, HIGH_SHARES};
+    use super::{random_kwh, random_shares, span_beside_end, span_of_contract, HIGH_SHARES};
     use crate::random::Random;
     use calculator::codes::Territory;
     use calculator::packed::Facts;
     use calculator::rates::{Amendment, Certificate, Contract, Fuel, Kind};
     use std::collections::{BTreeMap, BTreeSet};
+
+    #[test]
+    fn kwh_at_every_edge_are_drawn() {
+        let mut random = Random::new(1, "kWh", 0);
+        let drawn: Vec<u32> = (0..2_000).map(|_| random_kwh(&mut random)).collect();
+        for kwh in [0, 1, 39_999_999, 40_000_000, 40_000_001] {
+            assert!(drawn.contains(&kwh), "{kwh}");
+        }
+        let more = drawn.iter().filter(|&&kwh| kwh > 40_000_000);
+        assert!(more.count() < 100);
+    }
 
     #[test]
     fn shares_at_every_edge_of_kwh_are_drawn() {

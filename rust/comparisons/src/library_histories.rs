@@ -3,7 +3,6 @@
 //! sheet").
 
 use crate::amending_calls::AMENDING;
-use crate::amendments_met;
 use crate::books::random_book;
 use crate::call_made::CallMade;
 use crate::changing_calls::CHANGING;
@@ -90,7 +89,7 @@ fn count_call(findings: &mut Findings, made: &CallMade) {
     if let Call::Cert { contract, .. } = *made.call {
         count_certificate(&mut findings.rows, contract, made.before, made.after);
     }
-    amendments_met::count_call(&mut findings.library.amendments, made);
+    findings.library.count_call(made);
 }
 
 /// A history while it is compared.
@@ -108,7 +107,7 @@ impl History {
         findings: &mut Findings,
         book: &[u32],
         call: &Call,
-        count: fn(&mut Findings, &CallMade),
+        count: impl Fn(&mut Findings, &CallMade),
         place: impl Fn() -> String,
     ) {
         let ledger = &self.ledger;

@@ -21,9 +21,11 @@ mod disorders;
 mod each_call;
 mod generator;
 mod implementations;
+mod larger_rows;
 mod ledgers_stored_earlier;
 mod library_histories;
 mod months;
+mod most_kwh_met;
 mod places_met;
 mod program_sessions;
 mod random;
@@ -34,10 +36,13 @@ mod searches;
 mod searching_calls;
 mod session_text;
 mod sorts;
+mod stored_row_events;
 mod stored_rows;
 mod unreadable_lines;
 
 use counts::Findings;
+use larger_rows::LARGER_ROWS;
+use rows_across_months::ROWS_ACROSS_MONTHS;
 use std::env;
 use std::process::ExitCode;
 
@@ -54,7 +59,8 @@ fn main() -> ExitCode {
     program_sessions::compare(&mut findings, seed);
     dates::compare(&mut findings);
     library_histories::compare(&mut findings, seed);
-    stored_rows::compare(&mut findings, seed);
+    ROWS_ACROSS_MONTHS.compare(&mut findings, seed);
+    LARGER_ROWS.compare(&mut findings, seed);
     ledgers_stored_earlier::compare(&mut findings, seed);
     searches::compare(&mut findings, seed);
     disordered_ledgers::compare(&mut findings, seed);

@@ -2,7 +2,6 @@
 //! (document 01, section "The program and one run").
 
 use crate::amending_calls::AMENDING;
-use crate::amendments_met::count_call;
 use crate::call_made::CallMade;
 use crate::changing_calls::CHANGING;
 use crate::counts::Findings;
@@ -133,8 +132,8 @@ fn count_lines(findings: &mut Findings, input: &[u8], expected: &[u8]) {
     }
 }
 
-/// Counts the bills with a change inside that the lines of an input rate, and the calls on amended
-/// contracts.
+/// Counts the bills with a change inside that the lines of an input rate, the calls on amended
+/// contracts, and the bills of the most kWh.
 fn count_calls(findings: &mut Findings, input: &[u8]) {
     if input.len() > INPUT_BYTES {
         return;
@@ -159,7 +158,7 @@ fn count_calls(findings: &mut Findings, input: &[u8]) {
                         before: &before,
                         after: &after,
                     };
-                    count_call(&mut findings.program.amendments, &made);
+                    findings.program.count_call(&made);
                 }
             }
         }
@@ -253,16 +252,44 @@ rebill 5 801 801 10 50000 0 0 0
 bill 5 802 802 10 50000 0 0 0
 bill 5 799 801 10 50000 0 0 0
 ";
-        let mut findings = Findings::new();
-        count_calls(&mut findings, input);
-        let met = findings.program.amendments.met().into_iter();
-        let met = met.filter(|&(_, times)| times > 0);
         let expected = [
             "amended, no row held",
             "bill refused by 17, up to the day after the end",
             "bill that starts on the end, shown by R",
             "bill that starts after the end, shown by R",
         ];
-        assert!(met.eq(expected.map(|sort| (sort.to_string(), 1))));
+        assert_eq!(met_once(input), expected);
+    }
+
+    #[test]
+    fn the_bills_of_the_most_kwh_are_counted() {
+        let input = b"open 5 0 2 0 0
+bill 5 800 800 40000000 50000 0 0 0
+bill 5 801 801 40000001 50000 0 0 0
+bill 5 802 802 39999999 50000 0 0 0
+rebill 5 800 800 40000001 50000 0 0 0
+rebill 5 802 802 40000000 50000 0 0 0
+rebill 5 802 802 40000000 50000 0 0 00
+";
+        let expected = [
+            "bill of 40,000,000 kWh accepted",
+            "bill of 40,000,001 kWh refused by 8",
+            "rebill of 40,000,000 kWh accepted",
+            "rebill of 40,000,001 kWh refused by 8",
+        ];
+        assert_eq!(met_once(input), expected);
+    }
+
+    /// The sorts of calls that the lines of an input meet, each once.
+    fn met_once(input: &[u8]) -> Vec<String> {
+        let mut findings = Findings::new();
+        count_calls(&mut findings, input);
+        let met = findings.program.sorts().map(|(_, sorts)| sorts.met());
+        let met = met.concat().into_iter().filter(|&(_, times)| times > 0);
+        met.map(|(sort, times)| {
+            assert_eq!(times, 1, "{sort}");
+            sort
+        })
+        .collect()
     }
 }

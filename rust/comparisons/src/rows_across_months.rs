@@ -1,16 +1,36 @@
 //! Rows of variable and index contracts that touch two months or three. No call makes such a
-//! row, but one that is stored stands (document 02, paper 2). The calls that meet it are counted
-//! by what they do.
+//! row, but one that is stored stands (document 02, paper 2).
 
 use crate::call_made::CallMade;
-use crate::months::months_touched;
-use crate::rows_met::{contract_name, contract_of, key};
-use crate::sorts::Sorts;
-use calculator::calls::Call;
+use crate::generator::ON_ROWS;
+use crate::months::{month_end, months_touched};
+use crate::random::Random;
+use crate::rows_met::{contract_name, contract_of, row_of};
+use crate::stored_row_events;
+use crate::stored_rows::{facts_before, StoredRows};
+use calculator::calls::BillNumbers;
+use calculator::codes::spans_share_a_day;
+use calculator::dates::LAST_DAY;
 use calculator::packed::{Facts, Row};
-use calculator::rates::{class_of_bill, Class};
+use calculator::rates::Bill;
 use calculator::refusals::SPAN_TOUCHES_TWO_MONTHS;
-use std::collections::BTreeSet;
+
+pub const ROWS_ACROSS_MONTHS: StoredRows = StoredRows {
+    kind: "histories of stored rows across months",
+    histories: 1_000,
+    facts: stored_facts,
+    includes: is_across_months,
+    profile: ON_ROWS,
+    name: |facts, row| {
+        let contract = contract_name(&contract_of(facts, row));
+        name(&contract, months_touched(row.bill.span()))
+    },
+    event_of_rebill,
+    sorts: |findings| &mut findings.rows_across_months,
+};
+
+/// The calls that leave the facts of a ledger before rows are made longer.
+const CALLS_BEFORE: usize = 200;
 
 /// The contracts with monthly prices by kind and fuel.
 const CONTRACTS: [&str; 3] = ["variable electricity", "variable gas", "index electricity"];
@@ -18,157 +38,103 @@ const CONTRACTS: [&str; 3] = ["variable electricity", "variable gas", "index ele
 /// How many months a row touches.
 const MONTHS: [u32; 2] = [2, 3];
 
-const RE_RATED: &str = "re-rated by a certificate";
-const LEFT: &str = "left by a certificate for its shares";
-const CANCELLED: &str = "cancelled";
-const REPORTED: &str = "in a report";
-const BESIDE_BILL: &str = "beside a new bill";
 const REBILL_REFUSED: &str = "rebilled across months and refused by 15";
 const REBILLED: &str = "rebilled within one month";
 
-/// What a call does to a row, or beside it.
-const EVENTS: [&str; 7] = [
-    RE_RATED,
-    LEFT,
-    CANCELLED,
-    REPORTED,
-    BESIDE_BILL,
-    REBILL_REFUSED,
-    REBILLED,
-];
-
 /// Every sort.
 pub fn sorts() -> Vec<String> {
-    let mut sorts = Vec::new();
+    let mut names = Vec::new();
     for contract in CONTRACTS {
-        for months in MONTHS {
-            sorts.extend(EVENTS.map(|event| sort(contract, months, event)));
-        }
+        names.extend(MONTHS.map(|months| name(contract, months)));
     }
-    sorts
+    stored_row_events::sorts(&names, &[REBILL_REFUSED, REBILLED])
 }
 
-/// The held rows that touch more than one month, of contracts with monthly prices.
-pub fn rows_across_months(facts: &Facts) -> impl Iterator<Item = &Row> {
-    let monthly = |row: &Row| contract_of(facts, row).kind.has_monthly_prices();
-    let rows = facts.rows.iter();
-    rows.filter(move |row| monthly(row) && months_touched(row.bill.span()) > 1)
+fn name(contract: &str, months: u32) -> String {
+    format!("{contract} across {months} months")
 }
 
-/// Counts the sorts that a call met, each once.
-pub fn count_call(sorts: &mut Sorts, made: &CallMade) {
-    let rows = rows_across_months(made.before).filter(|row| concerns(made.call, row));
-    let met = rows.filter_map(|row| {
-        let contract = contract_name(&contract_of(made.before, row));
-        let event = event(made, row)?;
-        Some(sort(&contract, months_touched(row.bill.span()), event))
-    });
-    for sort in met.collect::<BTreeSet<String>>() {
-        sorts.count(&sort);
-    }
+/// Whether a held row touches more than one month and its contract has monthly prices.
+fn is_across_months(facts: &Facts, row: &Row) -> bool {
+    contract_of(facts, row).kind.has_monthly_prices() && months_touched(row.bill.span()) > 1
 }
 
-fn sort(contract: &str, months: u32, event: &str) -> String {
-    format!("{contract} across {months} months, {event}")
-}
-
-/// Whether the call names the row's contract and, where it names a first day too, the row.
-fn concerns(call: &Call, row: &Row) -> bool {
-    match *call {
-        Call::Cert { contract, .. } | Call::Report { contract } => contract == row.contract,
-        Call::Bill(numbers) => numbers.contract == row.contract,
-        Call::Rebill(numbers) => (numbers.contract, numbers.first) == key(row),
-        Call::Cancel { contract, first } => (contract, first) == key(row),
-        Call::Start { .. } | Call::Open { .. } | Call::Claim | Call::Total | Call::Amend { .. } => {
-            false
-        }
-    }
-}
-
-/// What a call did to a row that it concerns.
-fn event(made: &CallMade, row: &Row) -> Option<&'static str> {
-    match (made.call, made.outcome) {
-        (Call::Cert { .. }, Ok(_)) if !made.after.rows.contains(row) => Some(RE_RATED),
-        (Call::Cert { .. }, Ok(_)) if row.bill.has_shares() => {
-            (class(made.before, row) != class(made.after, row)).then_some(LEFT)
-        }
-        (Call::Cancel { .. }, Ok(_)) => Some(CANCELLED),
-        (Call::Report { .. }, Ok(_)) => Some(REPORTED),
-        (Call::Bill(_), Ok(_)) => Some(BESIDE_BILL),
-        (Call::Rebill(_), &Err(SPAN_TOUCHES_TWO_MONTHS)) => Some(REBILL_REFUSED),
-        (Call::Rebill(numbers), Ok(_)) if months_touched((numbers.first, numbers.last)) == 1 => {
-            Some(REBILLED)
-        }
+fn event_of_rebill(made: &CallMade, numbers: BillNumbers) -> Option<&'static str> {
+    match made.outcome {
+        &Err(SPAN_TOUCHES_TWO_MONTHS) => Some(REBILL_REFUSED),
+        Ok(_) if months_touched((numbers.first, numbers.last)) == 1 => Some(REBILLED),
         _ => None,
     }
 }
 
-/// The class that the row would have without shares.
-fn class(facts: &Facts, row: &Row) -> Class {
-    class_of_bill(contract_of(facts, row).certificate, row.bill.first_day)
+/// The facts that random calls leave, with rows made longer. A row that then shares a day with
+/// the one before it is left out.
+fn stored_facts(random: &mut Random) -> Facts {
+    let mut facts = facts_before(random, CALLS_BEFORE);
+    let mut rows: Vec<Row> = Vec::new();
+    for row in &facts.rows {
+        let taken = rows.last().is_some_and(|before| {
+            before.contract == row.contract
+                && spans_share_a_day(before.bill.span(), row.bill.span())
+        });
+        if !taken {
+            rows.push(lengthened(random, &facts, row));
+        }
+    }
+    facts.rows = rows;
+    facts
+}
+
+/// The row with a last day in its first month or, mostly, in one of the next two: the first or
+/// the last day of that month, or any. Its amount is that of the longer bill.
+fn lengthened(random: &mut Random, facts: &Facts, row: &Row) -> Row {
+    let mut earliest = row.bill.first_day;
+    for _ in 0..random.one_of(&[0, 1, 1, 1, 2, 2, 2, 2]) {
+        earliest = (month_end(earliest) + 1).min(LAST_DAY);
+    }
+    let latest = month_end(earliest);
+    let any = random.within(earliest..=latest);
+    let bill = Bill {
+        last_day: random.one_of(&[earliest, latest, any]),
+        ..row.bill
+    };
+    row_of(facts, row.contract, bill)
 }
 
 #[cfg(test)]
 mod tests {
-    use super::{count_call, sorts};
-    use crate::call_made::of_call;
-    use crate::sorts::Sorts;
-    use calculator::codes::Territory;
+    use super::{is_across_months, ROWS_ACROSS_MONTHS};
+    use crate::months::{month_end, months_touched};
+    use crate::rows_met::{contract_name, contract_of};
+    use crate::stored_rows::tests::{facts_of_rows, TestRow};
     use calculator::packed::{Facts, Row};
-    use calculator::postings::PostingModule;
-    use calculator::rates::{amount, Bill, Certificate, Contract, Fuel, Kind};
+    use calculator::rates::Kind;
+    use std::collections::BTreeSet;
 
-    /// The contract and the span of each row of 10 kWh, and its ETII share.
-    const ROWS: [(u32, (u32, u32), i64); 5] = [
-        (5, (500, 520), 0),
-        (5, (540, 580), 3),
-        (5, (600, 601), 0),
-        (5, (640, 670), 0),
-        (6, (500, 520), 0),
+    /// Rows of 10 kWh.
+    const ROWS: [TestRow; 5] = [
+        (5, (500, 520), 10, 0),
+        (5, (540, 580), 10, 3),
+        (5, (600, 601), 10, 0),
+        (5, (640, 670), 10, 0),
+        (6, (500, 520), 10, 0),
     ];
 
     /// The facts of the rows; contract 5 is variable and contract 6 flexible.
     fn facts() -> Facts {
-        let mut facts = Facts::fresh(Territory::GreatBritain);
-        let contract = |kind| Contract {
-            fuel: Fuel::Electricity,
-            kind,
-            certificate: Certificate::None,
-            amendment: None,
-        };
-        facts.contracts[5] = Some(contract(Kind::Variable));
-        facts.contracts[6] = Some(contract(Kind::Flexible));
-        facts.rows.extend(ROWS.map(|(number, span, etii_share)| {
-            let bill = Bill {
-                first_day: span.0,
-                last_day: span.1,
-                kwh: 10,
-                etii_share,
-                reference_price: 31_980,
-                supply_price: 67_030,
-                ..Bill::default()
-            };
-            Row {
-                contract: number,
-                bill,
-                amount: amount(&contract(Kind::Variable), &bill),
-            }
-        }));
-        facts
+        facts_of_rows([Kind::Variable, Kind::Flexible], &ROWS)
     }
 
-    /// A call on the facts meets these sorts of contract 5, each once, and no other.
+    /// A call on the facts meets these sorts of contract 5 and no other.
     fn expect(name: &str, numbers: &[u32], expected: &[&str]) {
-        let mut module = PostingModule::from_facts(&facts());
-        let mut counted = Sorts::new(sorts(), 1);
-        of_call(&mut module, &[31_980; 1_740], (name, numbers), |made| {
-            count_call(&mut counted, made);
-        });
-        let counted = counted.met().into_iter().filter(|&(_, times)| times > 0);
+        let met = ROWS_ACROSS_MONTHS.met_by_call(&facts(), name, numbers);
         let expected = expected
             .iter()
-            .map(|sort| (format!("variable electricity across {sort}"), 1));
-        assert!(counted.eq(expected), "{name} {numbers:?}");
+            .map(|sort| format!("variable electricity across {sort}"));
+        assert!(
+            met.iter().cloned().eq(expected),
+            "{name} {numbers:?}: {met:?}"
+        );
     }
 
     #[test]
@@ -215,11 +181,14 @@ mod tests {
     }
 
     #[test]
-    fn reports_and_bills_beside_a_row() {
+    fn reports_claims_totals_and_bills_beside_a_row() {
         let reported = ["2 months, in a report", "3 months, in a report"];
         expect("report", &[5], &reported);
         expect("report", &[6], &[]);
-        expect("total", &[], &[]);
+        let claimed = ["2 months, in a claim", "3 months, in a claim"];
+        expect("claim", &[], &claimed);
+        let totalled = ["2 months, in a total", "3 months, in a total"];
+        expect("total", &[], &totalled);
         let beside = ["2 months, beside a new bill", "3 months, beside a new bill"];
         expect("bill", &[5, 700, 700, 1, 1, 0, 0, 0], &beside);
         expect("bill", &[5, 520, 520, 1, 1, 0, 0, 0], &[]);
@@ -247,9 +216,51 @@ mod tests {
         );
         rebill(5, 500, 515, 1, &["2 months, rebilled within one month"]);
         rebill(5, 540, 546, 1, &["3 months, rebilled within one month"]);
-        rebill(5, 500, 515, 100_000_001, &[]);
+        rebill(5, 500, 515, 40_000_001, &[]);
         rebill(5, 501, 520, 1, &[]);
         rebill(5, 600, 639, 1, &[]);
         rebill(6, 500, 515, 1, &[]);
+    }
+
+    /// By contract, months and shares; beside them rows without monthly prices.
+    #[test]
+    fn rows_of_every_sort_are_drawn() {
+        let sort = |facts: &Facts, row: &Row| {
+            let contract = contract_name(&contract_of(facts, row));
+            let months = months_touched(row.bill.span());
+            (contract, months, row.bill.has_shares())
+        };
+        let mut drawn = BTreeSet::new();
+        for facts in ROWS_ACROSS_MONTHS.drawn_facts(20) {
+            drawn.extend(facts.rows.iter().map(|row| sort(&facts, row)));
+        }
+        for contract in ["variable electricity", "variable gas", "index electricity"] {
+            for months in 1..=3 {
+                for shares in [false, true] {
+                    let sort = (contract.to_string(), months, shares);
+                    assert!(drawn.contains(&sort), "{sort:?}");
+                }
+            }
+        }
+        for kind in ["fixed", "flexible"] {
+            let mut contracts = drawn.iter().map(|(contract, ..)| contract);
+            assert!(contracts.any(|contract| contract.starts_with(kind)));
+        }
+    }
+
+    #[test]
+    fn rows_end_with_the_first_and_with_the_last_day_of_a_month() {
+        let mut last_days = BTreeSet::new();
+        for facts in ROWS_ACROSS_MONTHS.drawn_facts(20) {
+            let rows = facts.rows.iter();
+            let rows = rows.filter(|row| is_across_months(&facts, row));
+            last_days.extend(rows.map(|row| row.bill.last_day));
+        }
+        let month_ends = last_days.iter().filter(|&&day| day == month_end(day));
+        assert!(month_ends.count() > 6);
+        let month_starts = last_days
+            .iter()
+            .filter(|&&day| month_end(day - 1) == day - 1);
+        assert!(month_starts.count() > 6);
     }
 }

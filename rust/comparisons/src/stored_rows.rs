@@ -1,26 +1,41 @@
-//! Histories on ledgers that hold rows across two months and across three of variable and index
-//! contracts. No call makes such a row, so the ledgers are packed from facts.
+//! Histories on ledgers that hold rows which no call makes, so that the ledgers are packed from
+//! facts. The calls on such rows are counted by what they do to them.
 
 use crate::books::random_book;
 use crate::call_made::CallMade;
 use crate::counts::Findings;
 use crate::damaged_ledgers::random_facts;
-use crate::generator::{random_call, BILLING, ON_ROWS};
+use crate::generator::{random_call, Profile, BILLING};
 use crate::library_histories::History;
-use crate::months::month_end;
 use crate::random::Random;
-use crate::rows_across_months::{count_call, rows_across_months};
-use crate::rows_met::{contract_of, row_of};
-use calculator::codes::{spans_share_a_day, Territory};
-use calculator::dates::LAST_DAY;
+use crate::rows_met::contract_of;
+use crate::sorts::Sorts;
+use crate::stored_row_events::{concerns, event, sort};
+use calculator::calls::{BillNumbers, Call};
+use calculator::codes::Territory;
 use calculator::facts::CONTRACTS;
 use calculator::packed::{pack, Facts, Row};
-use calculator::rates::Bill;
+use std::collections::BTreeSet;
 
-const KIND: &str = "histories of stored rows across months";
-
-/// How many histories there are.
-const HISTORIES: u64 = 1_000;
+/// Rows of one sort that no call makes.
+pub struct StoredRows {
+    /// The kind of the histories on ledgers that hold them.
+    pub kind: &'static str,
+    /// How many histories there are.
+    pub histories: u64,
+    /// Draws the facts of a ledger that holds such rows.
+    pub facts: fn(&mut Random) -> Facts,
+    /// Whether a held row is one of them.
+    pub includes: fn(&Facts, &Row) -> bool,
+    /// The calls on them and on their contracts.
+    pub profile: &'static Profile,
+    /// The name under which a row is counted.
+    pub name: fn(&Facts, &Row) -> String,
+    /// What a rebill of a row does.
+    pub event_of_rebill: fn(&CallMade, BillNumbers) -> Option<&'static str>,
+    /// Where the calls are counted.
+    pub sorts: fn(&mut Findings) -> &mut Sorts,
+}
 
 /// The ledgers' territories; index contracts are for Northern Ireland only.
 const TERRITORIES: [Territory; 3] = [
@@ -29,152 +44,154 @@ const TERRITORIES: [Territory; 3] = [
     Territory::NorthernIreland,
 ];
 
-/// The calls that leave the facts of a ledger before rows are made longer.
-const CALLS_BEFORE: usize = 200;
-
 /// The most calls on a ledger.
 const CALLS: usize = 200;
 
-/// Compares the histories.
-pub fn compare(findings: &mut Findings, seed: u64) {
-    for number in 0..HISTORIES {
-        compare_history(findings, seed, number);
-    }
-}
-
-/// A history ends where no row across months is left.
-fn compare_history(findings: &mut Findings, seed: u64, number: u64) {
-    findings.library.count_run(KIND);
-    let mut random = Random::new(seed, KIND, number);
-    let facts = stored_facts(&mut random);
-    let mut history = History {
-        ledger: pack(&facts),
-        facts,
-    };
-    for step in 0..CALLS {
-        let aimed_at = across_months_alone(&history.facts);
-        if aimed_at.rows.is_empty() {
-            break;
-        }
-        let call = random_call(&mut random, &aimed_at, ON_ROWS);
-        let place = || format!("seed {seed}, {KIND}, number {number}, call {step}");
-        let book = random_book(&mut random, &call);
-        let count = |findings: &mut Findings, made: &CallMade| {
-            count_call(&mut findings.rows_across_months, made);
-        };
-        history.compare_next_call(findings, &book, &call, count, place);
-    }
-}
-
-/// The facts that random calls leave, with rows made longer. A row that then shares a day with
-/// the one before it is left out.
-fn stored_facts(random: &mut Random) -> Facts {
+/// The facts that random calls leave, of which there are that many, before rows are altered.
+pub fn facts_before(random: &mut Random, calls: usize) -> Facts {
     let territory = random.one_of(&TERRITORIES);
-    let mut facts = random_facts(random, territory, BILLING, CALLS_BEFORE);
-    let mut rows: Vec<Row> = Vec::new();
-    for row in &facts.rows {
-        let taken = rows.last().is_some_and(|before| {
-            before.contract == row.contract
-                && spans_share_a_day(before.bill.span(), row.bill.span())
-        });
-        if !taken {
-            rows.push(lengthened(random, &facts, row));
+    random_facts(random, territory, BILLING, calls)
+}
+
+impl StoredRows {
+    /// Compares the histories.
+    pub fn compare(&self, findings: &mut Findings, seed: u64) {
+        for number in 0..self.histories {
+            self.compare_history(findings, seed, number);
         }
     }
-    facts.rows = rows;
-    facts
-}
 
-/// The row with a last day in its first month or, mostly, in one of the next two: the first or
-/// the last day of that month, or any. Its amount is that of the longer bill.
-fn lengthened(random: &mut Random, facts: &Facts, row: &Row) -> Row {
-    let mut earliest = row.bill.first_day;
-    for _ in 0..random.one_of(&[0, 1, 1, 1, 2, 2, 2, 2]) {
-        earliest = (month_end(earliest) + 1).min(LAST_DAY);
+    /// A history ends where no such row is left.
+    fn compare_history(&self, findings: &mut Findings, seed: u64, number: u64) {
+        let kind = self.kind;
+        findings.library.count_run(kind);
+        let mut random = Random::new(seed, kind, number);
+        let facts = (self.facts)(&mut random);
+        let mut history = History {
+            ledger: pack(&facts),
+            facts,
+        };
+        for step in 0..CALLS {
+            let aimed_at = self.alone(&history.facts);
+            if aimed_at.rows.is_empty() {
+                break;
+            }
+            let call = random_call(&mut random, &aimed_at, self.profile);
+            let place = || format!("seed {seed}, {kind}, number {number}, call {step}");
+            let book = random_book(&mut random, &call);
+            let count = |findings: &mut Findings, made: &CallMade| {
+                for sort in self.sorts_of_call(made) {
+                    (self.sorts)(findings).count(&sort);
+                }
+            };
+            history.compare_next_call(findings, &book, &call, count, place);
+        }
     }
-    let latest = month_end(earliest);
-    let any = random.within(earliest..=latest);
-    let bill = Bill {
-        last_day: random.one_of(&[earliest, latest, any]),
-        ..row.bill
-    };
-    row_of(facts, row.contract, bill)
-}
 
-/// The facts with the rows across months and their contracts alone, on which calls are drawn
-/// that meet such rows.
-fn across_months_alone(facts: &Facts) -> Facts {
-    let rows: Vec<Row> = rows_across_months(facts).copied().collect();
-    let mut contracts = [None; CONTRACTS];
-    for row in &rows {
-        contracts[row.contract as usize] = Some(contract_of(facts, row));
+    /// The facts with such rows and their contracts alone, on which calls are drawn that meet them.
+    fn alone(&self, facts: &Facts) -> Facts {
+        let rows = facts.rows.iter();
+        let rows = rows.filter(|row| (self.includes)(facts, row));
+        let rows: Vec<Row> = rows.copied().collect();
+        let mut contracts = [None; CONTRACTS];
+        for row in &rows {
+            contracts[row.contract as usize] = Some(contract_of(facts, row));
+        }
+        Facts {
+            contracts,
+            rows,
+            ..*facts
+        }
     }
-    Facts {
-        contracts,
-        rows,
-        ..*facts
+
+    /// The sorts that a call met.
+    fn sorts_of_call(&self, made: &CallMade) -> BTreeSet<String> {
+        let rows = made.before.rows.iter();
+        let rows = rows.filter(|row| concerns(made.call, row) && (self.includes)(made.before, row));
+        let met = rows.filter_map(|row| {
+            let event = match *made.call {
+                Call::Rebill(numbers) => (self.event_of_rebill)(made, numbers),
+                _ => event(made, row),
+            };
+            Some(sort(&(self.name)(made.before, row), event?))
+        });
+        met.collect()
     }
 }
 
 #[cfg(test)]
-mod tests {
-    use super::stored_facts;
-    use crate::months::{month_end, months_touched};
+pub mod tests {
+    use super::StoredRows;
+    use crate::call_made::of_call;
+    use crate::counts::Findings;
+    use crate::larger_rows::LARGER_ROWS;
     use crate::random::Random;
-    use crate::rows_across_months::rows_across_months;
-    use crate::rows_met::{contract_name, contract_of};
-    use calculator::packed::{pack, unpack, Facts, Row};
-    use std::collections::BTreeSet;
+    use crate::rows_across_months::ROWS_ACROSS_MONTHS;
+    use crate::rows_met::row_of;
+    use calculator::codes::Territory;
+    use calculator::packed::{pack, unpack, Facts};
+    use calculator::postings::PostingModule;
+    use calculator::rates::{Bill, Certificate, Contract, Fuel, Kind};
 
-    fn drawn_facts() -> Vec<Facts> {
-        let ledger = |number| stored_facts(&mut Random::new(1, "stored rows", number));
-        (0..20).map(ledger).collect()
+    /// The contract, the span, the kWh and the ETII share of a row.
+    pub type TestRow = (u32, (u32, u32), i64, i64);
+
+    /// The facts of two electricity contracts, 5 and 6, of these kinds, with rows at R 31,980 and S
+    /// 67,030.
+    pub fn facts_of_rows(kinds: [Kind; 2], rows: &[TestRow]) -> Facts {
+        let mut facts = Facts::fresh(Territory::GreatBritain);
+        for (number, kind) in (5..).zip(kinds) {
+            facts.contracts[number] = Some(Contract {
+                fuel: Fuel::Electricity,
+                kind,
+                certificate: Certificate::None,
+                amendment: None,
+            });
+        }
+        for &(contract, (first_day, last_day), kwh, etii_share) in rows {
+            let bill = Bill {
+                first_day,
+                last_day,
+                kwh,
+                etii_share,
+                qhs_share: 0,
+                reference_price: 31_980,
+                supply_price: 67_030,
+            };
+            facts.rows.push(row_of(&facts, contract, bill));
+        }
+        facts
+    }
+
+    impl StoredRows {
+        /// The sorts that a call of a name and its numbers meets on the facts, with a book in which
+        /// every price is 31,980; each is one of those that are counted.
+        pub fn met_by_call(&self, facts: &Facts, name: &str, numbers: &[u32]) -> Vec<String> {
+            let mut module = PostingModule::from_facts(facts);
+            let met = of_call(&mut module, &[31_980; 1_740], (name, numbers), |made| {
+                self.sorts_of_call(made)
+            });
+            let mut findings = Findings::new();
+            for sort in &met {
+                (self.sorts)(&mut findings).count(sort);
+            }
+            met.into_iter().collect()
+        }
+
+        /// The facts of that many ledgers.
+        pub fn drawn_facts(&self, ledgers: u64) -> Vec<Facts> {
+            let random = |number| Random::new(1, self.kind, number);
+            let facts = (0..ledgers).map(|number| (self.facts)(&mut random(number)));
+            facts.collect()
+        }
     }
 
     #[test]
     fn the_ledgers_are_well_formed() {
-        for facts in drawn_facts() {
-            assert_eq!(unpack(&pack(&facts)), Some(facts));
-        }
-    }
-
-    /// By contract, months and shares; beside them rows without monthly prices.
-    #[test]
-    fn rows_of_every_sort_are_drawn() {
-        let sort = |facts: &Facts, row: &Row| {
-            let contract = contract_name(&contract_of(facts, row));
-            let months = months_touched(row.bill.span());
-            (contract, months, row.bill.has_shares())
-        };
-        let mut drawn = BTreeSet::new();
-        for facts in drawn_facts() {
-            drawn.extend(facts.rows.iter().map(|row| sort(&facts, row)));
-        }
-        for contract in ["variable electricity", "variable gas", "index electricity"] {
-            for months in 1..=3 {
-                for shares in [false, true] {
-                    let sort = (contract.to_string(), months, shares);
-                    assert!(drawn.contains(&sort), "{sort:?}");
-                }
+        for rows in [ROWS_ACROSS_MONTHS, LARGER_ROWS] {
+            for facts in rows.drawn_facts(20) {
+                assert_eq!(unpack(&pack(&facts)), Some(facts));
             }
         }
-        for kind in ["fixed", "flexible"] {
-            let mut contracts = drawn.iter().map(|(contract, ..)| contract);
-            assert!(contracts.any(|contract| contract.starts_with(kind)));
-        }
-    }
-
-    #[test]
-    fn rows_end_with_the_first_and_with_the_last_day_of_a_month() {
-        let mut last_days = BTreeSet::new();
-        for facts in drawn_facts() {
-            last_days.extend(rows_across_months(&facts).map(|row| row.bill.last_day));
-        }
-        let month_ends = last_days.iter().filter(|&&day| day == month_end(day));
-        assert!(month_ends.count() > 6);
-        let month_starts = last_days
-            .iter()
-            .filter(|&&day| month_end(day - 1) == day - 1);
-        assert!(month_starts.count() > 6);
     }
 }

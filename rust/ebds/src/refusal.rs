@@ -1,5 +1,5 @@
 //! What turns a call down (document 01, section "Turned down, in checking order"; document 02,
-//! papers 1, 2 and 5).
+//! papers 1, 2, 5 and 6).
 
 use std::error::Error;
 use std::fmt::{self, Display, Formatter};
@@ -79,7 +79,7 @@ impl Refusal {
             }
             Refusal::RowAfterOriginalEnd => "a row of the contract ends after the original end given",
             Refusal::WrongQuantity => {
-                "kWh is above 100,000,000, S or WAP above 999,999, or a WAP not 0 where it must be"
+                "kWh is above 40,000,000, S or WAP above 999,999, or a WAP not 0 where it must be"
             }
             Refusal::SharesExceedKwh => "the two shares exceed kWh",
             Refusal::NoSuchRow => "no row of that contract has that first day",

@@ -262,7 +262,7 @@ fn number_17_comes_after_7_and_before_8() -> Result<(), Refusal> {
     let across = span(668, 669);
     let of_contract = |contract| BillNumbers { contract, ..across };
     let too_much = BillNumbers {
-        kwh: 100_000_001,
+        kwh: 40_000_001,
         ..across
     };
     let weighted = BillNumbers { wap: 1, ..across };

@@ -156,6 +156,11 @@ fn a_ledger_comes_back_from_its_bytes() -> Result<(), Refusal> {
 fn a_refusal_says_its_number_and_words() {
     for (refusal, number, text) in [
         (
+            Refusal::WrongQuantity,
+            8,
+            "refused 8: kWh is above 40,000,000, S or WAP above 999,999, or a WAP not 0 where it must be",
+        ),
+        (
             Refusal::NoRoom,
             12,
             "refused 12: 1,024 rows are held already",

@@ -117,7 +117,7 @@ fn number_15_comes_after_7_and_before_8() -> Result<(), Refusal> {
         (|bill| bill.first = 485, Refusal::WrongDay),
         (|bill| bill.last = 852, Refusal::WrongDay),
         (|bill| bill.last = u32::MAX, Refusal::WrongDay),
-        (|bill| bill.kwh = 100_000_001, Refusal::TwoMonths),
+        (|bill| bill.kwh = 40_000_001, Refusal::TwoMonths),
         (|bill| bill.supply = 1_000_000, Refusal::TwoMonths),
         (|bill| bill.wap = 1, Refusal::TwoMonths),
         (|bill| bill.etii_share = u32::MAX, Refusal::TwoMonths),

@@ -2,7 +2,10 @@
 //! never meets: any bytes as the ledger and any list as the book. [`ebds::calls`] itself holds
 //! the numbers answered with a refusal to zeros.
 
+mod row_fields;
+
 use ebds::{calls, BillNumbers, BOOK_LENGTH, LEDGER_LENGTH};
+use row_fields::with_field;
 
 /// A call on a ledger.
 type Call = fn(&mut [u8]) -> Result<[i64; 3], ebds::Refusal>;
@@ -111,10 +114,9 @@ fn two_rows_that_share_a_day_are_number_2() {
     expect_not_well_formed(&bytes, "the same row twice");
 }
 
-/// Damaged shares of a row whose rates are all 0, so that its amount is right whatever its shares
-/// are: (byte, bits put there).
-#[test]
-fn shares_above_kwh_in_a_row_are_number_2() {
+/// The ledger of these tests with a row of 1 kWh whose rates are all 0, so that its amount is right
+/// whatever its kWh and shares are.
+fn ledger_without_discount() -> Vec<u8> {
     let without_discount = BillNumbers {
         kwh: 1,
         supply: 1,
@@ -123,6 +125,25 @@ fn shares_above_kwh_in_a_row_are_number_2() {
     };
     let mut whole = ledger();
     calls::rebill(&mut whole, &BOOK, without_discount).expect("a rebill");
+    whole
+}
+
+/// A row may have more kWh than a bill is given.
+#[test]
+fn kwh_above_100_000_000_in_a_row_are_number_2() {
+    let with = |kwh| with_field(&ledger_without_discount(), 0, "kWh", kwh);
+    for kwh in [0, 40_000_000, 40_000_001, 99_999_999, 100_000_000] {
+        assert_eq!(calls::total(&with(kwh)), Ok([0; 3]), "{kwh}");
+    }
+    for kwh in [100_000_001, 134_217_727] {
+        expect_not_well_formed(&with(kwh), &format!("{kwh} kWh"));
+    }
+}
+
+/// Damaged shares: (byte, bits put there).
+#[test]
+fn shares_above_kwh_in_a_row_are_number_2() {
+    let whole = ledger_without_discount();
     let with = |bits: &[(usize, u8)]| {
         let mut bytes = whole.clone();
         for &(byte, set) in bits {

@@ -2,10 +2,13 @@
 //! checking order, amounts, and the calls on such bills. That a refusal answers zeros is held by
 //! [`ebds::calls`] itself.
 
+mod refused_bills;
+
 use ebds::{
     BillNumbers, Billed, Certificate, Certified, Claimed, Fuel, Kind, Ledger, Rebilled, Refusal,
     Reported, Territory, Totalled, BOOK_LENGTH,
 };
+use refused_bills::{expect_no_bill, expect_no_rebill};
 
 /// The day number of 1 April 2023.
 const APRIL: u32 = 486;
@@ -70,29 +73,23 @@ fn ledger_of(numbers: BillNumbers) -> Result<Ledger, Refusal> {
     Ok(ledger)
 }
 
-/// Holds a bill to a refusal, with no byte changed.
-fn expect_no_bill(ledger: &mut Ledger, numbers: BillNumbers, refusal: Refusal) {
-    let before = ledger.clone();
-    let refused = ledger.bill(&UNPUBLISHED, numbers);
-    assert_eq!(refused, Err(refusal), "{numbers:?}");
-    assert_eq!(*ledger, before, "{numbers:?}");
-}
-
-/// Holds a rebill to a refusal, with no byte changed.
-fn expect_no_rebill(ledger: &mut Ledger, numbers: BillNumbers, refusal: Refusal) {
-    let before = ledger.clone();
-    let refused = ledger.rebill(&UNPUBLISHED, numbers);
-    assert_eq!(refused, Err(refusal), "{numbers:?}");
-    assert_eq!(*ledger, before, "{numbers:?}");
-}
-
 #[test]
 fn shares_that_exceed_kwh_are_number_14() -> Result<(), Refusal> {
     let mut ledger = ledger_of(april(400, 350))?;
     for (etii_share, qhs_share) in EXCEEDING {
         let refusal = Refusal::SharesExceedKwh;
-        expect_no_bill(&mut ledger, may(etii_share, qhs_share), refusal);
-        expect_no_rebill(&mut ledger, april(etii_share, qhs_share), refusal);
+        expect_no_bill(
+            &mut ledger,
+            &UNPUBLISHED,
+            may(etii_share, qhs_share),
+            refusal,
+        );
+        expect_no_rebill(
+            &mut ledger,
+            &UNPUBLISHED,
+            april(etii_share, qhs_share),
+            refusal,
+        );
     }
     Ok(())
 }
@@ -104,9 +101,9 @@ const EXACT: [(u32, u32, u32); 8] = [
     (1_000, 0, 1_000),
     (1_000, 400, 600),
     (1_000, 999, 1),
-    (100_000_000, 100_000_000, 0),
-    (100_000_000, 0, 100_000_000),
-    (100_000_000, 50_000_000, 50_000_000),
+    (40_000_000, 40_000_000, 0),
+    (40_000_000, 0, 40_000_000),
+    (40_000_000, 20_000_000, 20_000_000),
 ];
 
 /// They are taken, and refused with one kWh more in either.
@@ -124,12 +121,22 @@ fn shares_of_exactly_kwh_are_taken() -> Result<(), Refusal> {
             etii_share: etii_share + 1,
             ..numbers
         };
-        expect_no_rebill(&mut ledger, more_etii, Refusal::SharesExceedKwh);
+        expect_no_rebill(
+            &mut ledger,
+            &UNPUBLISHED,
+            more_etii,
+            Refusal::SharesExceedKwh,
+        );
         let more_qhs = BillNumbers {
             qhs_share: qhs_share + 1,
             ..numbers
         };
-        expect_no_rebill(&mut ledger, more_qhs, Refusal::SharesExceedKwh);
+        expect_no_rebill(
+            &mut ledger,
+            &UNPUBLISHED,
+            more_qhs,
+            Refusal::SharesExceedKwh,
+        );
     }
     Ok(())
 }
@@ -143,7 +150,7 @@ fn numbers_up_to_8_come_before_14() -> Result<(), Refusal> {
         (|bill| bill.contract = 64, Refusal::NoSuchContract),
         (|bill| bill.contract = 1, Refusal::WronglyOpen),
         (|bill| bill.first = 485, Refusal::WrongDay),
-        (|bill| bill.kwh = 100_000_001, Refusal::WrongQuantity),
+        (|bill| bill.kwh = 40_000_001, Refusal::WrongQuantity),
         (|bill| bill.kwh = u32::MAX, Refusal::WrongQuantity),
         (|bill| bill.supply = 1_000_000, Refusal::WrongQuantity),
         (|bill| bill.wap = 1_000_000, Refusal::WrongQuantity),
@@ -152,8 +159,8 @@ fn numbers_up_to_8_come_before_14() -> Result<(), Refusal> {
     for (change, refusal) in changes {
         let mut exceeding = april(u32::MAX, 1);
         change(&mut exceeding);
-        expect_no_bill(&mut ledger, exceeding, refusal);
-        expect_no_rebill(&mut ledger, exceeding, refusal);
+        expect_no_bill(&mut ledger, &UNPUBLISHED, exceeding, refusal);
+        expect_no_rebill(&mut ledger, &UNPUBLISHED, exceeding, refusal);
     }
     Ok(())
 }
@@ -168,9 +175,19 @@ fn number_14_comes_before_the_numbers_of_rows() -> Result<(), Refusal> {
         (1_001, Refusal::SharesExceedKwh, Refusal::SharesExceedKwh),
     ] {
         let held = april(shares, 0);
-        expect_no_rebill(&mut ledger, BillNumbers { first: 487, ..held }, unheld);
-        expect_no_bill(&mut ledger, held, shared);
-        expect_no_rebill(&mut ledger, BillNumbers { last: 516, ..held }, shared);
+        expect_no_rebill(
+            &mut ledger,
+            &UNPUBLISHED,
+            BillNumbers { first: 487, ..held },
+            unheld,
+        );
+        expect_no_bill(&mut ledger, &UNPUBLISHED, held, shared);
+        expect_no_rebill(
+            &mut ledger,
+            &UNPUBLISHED,
+            BillNumbers { last: 516, ..held },
+            shared,
+        );
     }
     let mut ledger = ledger_with(Fuel::Electricity, Kind::Variable)?;
     for (shares, unpriced) in [(1_000, Refusal::NoPrice), (1_001, Refusal::SharesExceedKwh)] {
@@ -178,7 +195,7 @@ fn number_14_comes_before_the_numbers_of_rows() -> Result<(), Refusal> {
             wap: 0,
             ..april(0, shares)
         };
-        expect_no_bill(&mut ledger, numbers, unpriced);
+        expect_no_bill(&mut ledger, &UNPUBLISHED, numbers, unpriced);
     }
     Ok(())
 }

@@ -3,6 +3,7 @@
 //! bills, and ledgers stored before the paper. That a refusal answers zeros is held by
 //! [`ebds::calls`] itself.
 
+mod row_fields;
 mod stored_ledgers;
 
 use ebds::{
@@ -589,38 +590,38 @@ fn bills_of_one_day() -> Result<(), Refusal> {
 const LARGEST: BillNumbers = BillNumbers {
     supply: 999_999,
     wap: 999_999,
-    ..span(AT_40_000, 486, 851, 100_000_000)
+    ..span(AT_40_000, 486, 851, 40_000_000)
 };
 
 #[test]
 fn the_largest_bill() -> Result<(), Refusal> {
-    // floor(100,000,000 × 114 / 366) = 31,147,540 kWh at 19,610, floor(100,000,000 × 306 / 366) -
-    // 31,147,540 = 52,459,017 at 9,659,990 and 16,393,443 at 9,717,590:
-    // 610,803,259,400 + 506,753,579,629,830 + 159,304,757,762,370
-    let amount = 666_669_140_651_600;
-    let without = 1_961_000_000_000;
+    // floor(40,000,000 × 114 / 366) = 12,459,016 kWh at 19,610, floor(40,000,000 × 306 / 366) -
+    // 12,459,016 = 20,983,606 at 9,659,990 and 6,557,378 at 9,717,590:
+    // 244,321,303,760 + 202,701,424,123,940 + 63,721,910,879,020
+    let amount = 266_667_656_306_720;
+    let without = 784_400_000_000;
     expect_rated(FLEXIBLE, LARGEST, without, qhs(600), (19_610, amount))?;
     let mut ledger = certified(FLEXIBLE, qhs(600))?;
     ledger.bill(&BOOK, LARGEST)?;
-    let (pence, rest) = (66_666_914_065, 1_600);
+    let (pence, rest) = (26_666_765_630, 6_720);
     assert_eq!(ledger.claim()?, Claimed { pence, rest });
-    let (due, unclaimed) = (amount, 1_600);
+    let (due, unclaimed) = (amount, 6_720);
     assert_eq!(ledger.total()?, Totalled { due, unclaimed });
-    // from day 511: floor(100,000,000 × 25 / 366) = 6,830,601 kWh at 19,610, 83,606,557 - 6,830,601
-    // = 76,775,956 at 9,659,990 and 16,393,443 at 9,717,590: 133,948,085,610 +
-    // 741,654,967,200,440 + 159,304,757,762,370 = 901,093,673,048,420, less 666,669,140,651,600
-    assert_eq!(ledger.cert(0, qhs(511))?, changed_by(234_424_532_396_820));
-    let (pence, rest) = (23_442_453_239, 8_420);
+    // from day 511: floor(40,000,000 × 25 / 366) = 2,732,240 kWh at 19,610, 33,442,622 - 2,732,240
+    // = 30,710,382 at 9,659,990 and 6,557,378 at 9,717,590: 53,579,226,400 +
+    // 296,661,983,016,180 + 63,721,910,879,020 = 360,437,473,121,600, less 266,667,656,306,720
+    assert_eq!(ledger.cert(0, qhs(511))?, changed_by(93_769_816_814_880));
+    let (pence, rest) = (9_376_981_682, 1_600);
     assert_eq!(ledger.claim()?, Claimed { pence, rest });
     Ok(())
 }
 
-/// 83,606,557 kWh at 9,659,990 and 16,393,443 at 9,717,590:
-/// 807,638,504,554,430 + 159,304,757,762,370.
+/// 33,442,622 kWh at 9,659,990 and 6,557,378 at 9,717,590:
+/// 323,055,394,093,780 + 63,721,910,879,020.
 #[test]
 fn the_largest_share() -> Result<(), Refusal> {
-    let bill = shared(LARGEST, 0, 100_000_000);
-    let amount = 966_943_262_316_800;
+    let bill = shared(LARGEST, 0, 40_000_000);
+    let amount = 386_777_304_972_800;
     expect_rated(FLEXIBLE, bill, amount, qhs(600), (19_610, amount))
 }
 
@@ -640,7 +641,7 @@ fn refused_bills() -> [(BillNumbers, Refusal); 14] {
         // spans whose days, counted in 32 bits, are 0 and 4,294,966,810
         (days(0, u32::MAX), Refusal::WrongDay),
         (days(486, u32::MAX), Refusal::WrongDay),
-        (span(inside, 486, 515, 100_000_001), Refusal::WrongQuantity),
+        (span(inside, 486, 515, 40_000_001), Refusal::WrongQuantity),
         (span(inside, 486, 515, u32::MAX), Refusal::WrongQuantity),
         (shared(inside, 1_000, 1), Refusal::SharesExceedKwh),
         (shared(inside, 0, 1_001), Refusal::SharesExceedKwh),

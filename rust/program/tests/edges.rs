@@ -65,13 +65,13 @@ fn a_thousand_claims_and_one_more() {
     );
 }
 
-/// 64 flexible gas contracts that are QHS from day 511, each with 16 bills of 100,000,000 kWh at the highest R and S; 1,024 rows.
+/// 64 flexible gas contracts that are QHS from day 511, each with 16 bills of 40,000,000 kWh at the highest R and S; 1,024 rows.
 fn full_ledger() -> String {
     let mut input = String::new();
     for contract in 0..64 {
         input += &format!("open {contract} 1 2 0 0\ncert {contract} 2 511\n");
         for day in 792..808 {
-            input += &format!("bill {contract} {day} {day} 100000000 999999 999999 0 0\n");
+            input += &format!("bill {contract} {day} {day} 40000000 999999 999999 0 0\n");
         }
     }
     input
@@ -84,7 +84,7 @@ fn after_full_ledger(input: &str) -> Vec<String> {
     let lines: Vec<String> = text.lines().map(str::to_string).collect();
     let mut expected = vec!["ok", "ok 0 0"];
     // 10 × (999,999 − 6,500) ticks a kWh
-    expected.extend(["ok 999999 9934990 993499000000000"; 16]);
+    expected.extend(["ok 999999 9934990 397399600000000"; 16]);
     let (full, after) = lines.split_at(18 * 64);
     assert_eq!(full, expected.repeat(64));
     after.to_vec()
@@ -95,28 +95,29 @@ fn the_largest_amounts_in_a_full_ledger() {
     assert_eq!(
         after_full_ledger("total\nclaim\nreport 63\ncert 0 0 0\nclaim\ntotal\n"),
         [
-            "ok 1017342976000000000 1017342976000000000",
-            "ok 101734297600000 0",
-            "ok 16 1600000000 15895984000000000",
+            "ok 406937190400000000 406937190400000000",
+            "ok 40693719040000 0",
+            "ok 16 640000000 6358393600000000",
             // baseline again: 6,970 ticks a kWh
-            "ok -15884832000000000 16",
-            "ok -1588483200000 0",
-            "ok 1001458144000000000 0",
+            "ok -6353932800000000 16",
+            "ok -635393280000 0",
+            "ok 400583257600000000 0",
         ]
     );
 }
 
 #[test]
 fn a_full_ledger_takes_no_row_until_one_is_cancelled() {
-    // 12, before which 10 and 14 are tested; a cancelled row's place serves again
-    let input = "bill 0 600 600 1 1 1 0 0\nbill 0 792 792 1 1 1 0 0\nbill 0 600 600 1 1 1 1 1\ncancel 0 792\nbill 0 600 600 1 1 1 0 0\nbill 0 601 601 1 1 1 0 0\n";
+    // 12, before which 8, 10 and 14 are tested; a cancelled row's place serves again
+    let input = "bill 0 600 600 40000000 1 1 0 0\nbill 0 600 600 40000001 1 1 0 0\nbill 0 792 792 1 1 1 0 0\nbill 0 600 600 1 1 1 1 1\ncancel 0 792\nbill 0 600 600 1 1 1 0 0\nbill 0 601 601 1 1 1 0 0\n";
     assert_eq!(
         after_full_ledger(input),
         [
             "refused 12",
+            "refused 8",
             "refused 10",
             "refused 14",
-            "ok -993499000000000",
+            "ok -397399600000000",
             "ok 1 0 0",
             "refused 12"
         ]
@@ -141,7 +142,7 @@ fn a_missing_price_is_found_before_a_full_ledger() {
     let input = full_ledger_without_rows_of_63("open 63 1 1 0 0")
         + "bill 0 600 600 1 1 1 0 0\nbill 63 486 486 1 1 0 0 0\n";
     let printed = printed(input.as_bytes());
-    assert!(printed.ends_with(b"9934990 993499000000000\nrefused 12\nrefused 11\n"));
+    assert!(printed.ends_with(b"9934990 397399600000000\nrefused 12\nrefused 11\n"));
 }
 
 /// The fixed contract 63 has the original end 600. It may still be amended while the ledger is full.
@@ -150,5 +151,5 @@ fn a_span_across_the_original_end_is_found_before_a_full_ledger() {
     let input = full_ledger_without_rows_of_63("open 63 1 0 0 0")
         + "amend 63 600 0 0\nprice 852 20000\nbill 63 600 601 1 1 0 0 0\nbill 63 600 600 1 1 0 0 0\n";
     let printed = printed(input.as_bytes());
-    assert!(printed.ends_with(b"9934990 993499000000000\nok\nok\nrefused 17\nrefused 12\n"));
+    assert!(printed.ends_with(b"9934990 397399600000000\nok\nok\nrefused 17\nrefused 12\n"));
 }

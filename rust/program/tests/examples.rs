@@ -20,5 +20,5 @@ fn every_example_prints_its_output() {
             sessions += 1;
         }
     }
-    assert_eq!(sessions, 8);
+    assert_eq!(sessions, 9);
 }

@@ -1,6 +1,6 @@
-//! Document 01, "Turned down, in checking order", with numbers 14 to 18 of document 02, papers 1, 2 and 5: each number that the program
-//! can meet, and for each pair of neighbouring tests a line that fails both, which the earlier test turns down. The program's own ledger
-//! and book never meet numbers 2 and 3; the tests of the package `ebds` do.
+//! Document 01, "Turned down, in checking order", with document 02, papers 1, 2, 5 and 6, and their numbers 14 to 18: each number that
+//! the program can meet, and for each pair of neighbouring tests a line that fails both, which the earlier test turns down. The program's
+//! own ledger and book never meet numbers 2 and 3; the tests of the package `ebds` do.
 
 use program::{expect, expect_lines};
 
@@ -339,7 +339,7 @@ fn number_8_amounts_and_prices() {
     refused(
         8,
         &[
-            "bill 0 600 600 100000001 1 1 0 0",
+            "bill 0 600 600 40000001 1 1 0 0",
             "bill 0 600 600 1 1000000 1 0 0",
             "bill 0 600 600 1 1 1000000 0 0",
             "bill 1 600 600 1 1 1 0 0",
@@ -348,11 +348,44 @@ fn number_8_amounts_and_prices() {
     refused(
         8,
         &[
-            "rebill 0 486 515 100000001 1 1 0 0",
+            "rebill 0 486 515 40000001 1 1 0 0",
             "price 1740 0",
             "price 0 1000000",
         ],
     );
+}
+
+#[test]
+fn number_8_kwh_above_40_000_000() {
+    for kwh in [
+        "40000001",
+        "99999999",
+        "100000000",
+        "100000001",
+        "134217727",
+        "134217728",
+        "4294967295",
+    ] {
+        refused_after_opening(&format!("bill 0 600 600 {kwh} 1 1 0 0"), 8);
+        refused_after_opening(&format!("rebill 0 486 515 {kwh} 1 1 0 0"), 8);
+    }
+}
+
+/// At R 30,201 and S 67,030 a kWh has 10 ticks. One more kWh than is taken changes nothing.
+#[test]
+fn kwh_up_to_40_000_000_are_no_number_8() {
+    for kwh in [0, 1, 39_999_999, 40_000_000] {
+        let (amount, change) = (10 * kwh, 10 * (kwh - 1));
+        expect_lines(&[
+            "open 0 0 2 0 0: ok",
+            "bill 0 486 515 1 67030 30201 0 0: ok 30201 10 10",
+            &format!("bill 0 600 600 {kwh} 67030 30201 0 0: ok 30201 10 {amount}"),
+            &format!("rebill 0 486 515 {kwh} 67030 30201 0 0: ok 30201 10 {change}"),
+            "bill 0 601 601 40000001 67030 30201 0 0: refused 8",
+            "rebill 0 486 515 40000001 67030 30201 0 0: refused 8",
+            &format!("report 0: ok 2 {} {}", 2 * kwh, 2 * amount),
+        ]);
+    }
 }
 
 /// Bills and rebills of 1,000 kWh, with their two shares.
@@ -382,9 +415,9 @@ fn number_14_shares_above_kwh() {
     refused(
         14,
         &[
-            "bill 0 600 600 100000000 1 1 100000001 0",
-            "bill 0 600 600 100000000 1 1 0 100000001",
-            "bill 0 600 600 100000000 1 1 50000000 50000001",
+            "bill 0 600 600 40000000 1 1 40000001 0",
+            "bill 0 600 600 40000000 1 1 0 40000001",
+            "bill 0 600 600 40000000 1 1 20000000 20000001",
         ],
     );
 }
@@ -396,9 +429,9 @@ fn shares_of_exactly_kwh_are_no_number_14() {
         (1_000, "1000 0"),
         (1_000, "0 1000"),
         (1_000, "400 600"),
-        (100_000_000, "100000000 0"),
-        (100_000_000, "0 100000000"),
-        (100_000_000, "99999999 1"),
+        (40_000_000, "40000000 0"),
+        (40_000_000, "0 40000000"),
+        (40_000_000, "39999999 1"),
     ] {
         expect(
             format!(
@@ -459,16 +492,16 @@ fn the_earlier_test_turns_a_line_down() {
         &[
             "open 0 2 4 852 852",
             "cert 63 3 0",
-            "bill 63 0 0 100000001 1 1 0 0",
+            "bill 63 0 0 40000001 1 1 0 0",
         ],
     );
     refused(6, &["open 2 2 0 852 0", "cert 0 3 0"]);
-    // 7 before 15 and 8, 15 before 8, 14, 9 and 11, 8 before 14, 9 and 10, 14 before 9, 10 and 11
+    // 7 before 15 and 8, 15 before 8, 14, 9 and 11, 8 before 14, 9, 10 and 11, 14 before 9, 10 and 11
     refused(
         7,
         &[
-            "bill 0 485 485 100000001 1 1 0 0",
-            "rebill 0 485 485 100000001 1 1 0 0",
+            "bill 0 485 485 40000001 1 1 0 0",
+            "rebill 0 485 485 40000001 1 1 0 0",
             "bill 1 485 516 1 1 0 0 0",
             "rebill 1 515 852 1 1 0 0 0",
         ],
@@ -476,19 +509,21 @@ fn the_earlier_test_turns_a_line_down() {
     refused(
         15,
         &[
-            "bill 1 515 516 100000001 1 1 4294967295 0",
+            "bill 1 515 516 40000001 1 1 4294967295 0",
             "bill 1 515 516 1 1 0 1 1",
             "bill 1 515 516 1 1 0 0 0",
-            "rebill 1 515 516 100000001 1 1 4294967295 0",
+            "rebill 1 515 516 40000001 1 1 4294967295 0",
             "rebill 1 515 516 1 1 0 0 0",
         ],
     );
     refused(
         8,
         &[
-            "rebill 0 487 515 100000001 1 1 0 0",
+            "rebill 0 487 515 40000001 1 1 0 0",
+            "bill 0 486 515 40000001 1 1 0 0",
+            "bill 1 486 486 40000001 1 0 0 0",
             "bill 0 486 515 1 1000000 1 0 0",
-            "bill 0 600 600 100000001 1 1 100000001 1",
+            "bill 0 600 600 40000001 1 1 40000001 1",
             "bill 0 600 600 1 1 1000000 4294967295 1",
             "bill 1 486 486 1 1 1 1 1",
         ],
@@ -536,7 +571,7 @@ fn the_earlier_test_turns_an_amendment_or_a_span_across_its_end_down() {
         // 7 before 17; 17 before 8, 14, 10 and 11
         "bill 2 668 852 10 20000 0 0 0: refused 7",
         "bill 2 485 669 10 20000 0 0 0: refused 7",
-        "bill 2 668 669 100000001 20000 0 0 0: refused 17",
+        "bill 2 668 669 40000001 20000 0 0 0: refused 17",
         "bill 2 668 669 10 20000 1 0 0: refused 17",
         "bill 2 668 669 10 20000 0 11 0: refused 17",
         "bill 2 668 669 10 20000 0 0 0: refused 17",
@@ -545,7 +580,7 @@ fn the_earlier_test_turns_an_amendment_or_a_span_across_its_end_down() {
         "bill 2 599 599 10 20000 0 0 0: refused 11",
         // and before 9
         "rebill 2 668 852 10 20000 0 0 0: refused 7",
-        "rebill 2 668 669 100000001 20000 0 0 0: refused 17",
+        "rebill 2 668 669 40000001 20000 0 0 0: refused 17",
         "rebill 2 668 669 10 20000 0 11 0: refused 17",
         "rebill 2 668 669 10 20000 0 0 0: refused 17",
         "rebill 2 668 668 10 20000 0 0 0: refused 9",

@@ -1,9 +1,9 @@
 //! What bill and rebill have in common: the numbers given, their refusals and the row made of
 //! them (document 01, sections "Contracts and the price book" and "Turned down, in checking
-//! order"; document 02, papers 1, 2 and 5).
+//! order"; document 02, papers 1, 2, 5 and 6).
 
 use crate::calendar::scheme_month;
-use crate::check::{span_ok, Checked, HIGHEST_PRICE, MOST_KWH};
+use crate::check::{span_ok, Checked, HIGHEST_PRICE};
 use crate::contracts::{Contract, Fuel, Kind};
 use crate::packed::Row;
 use crate::rates::Bill;
@@ -11,6 +11,9 @@ use crate::refusals::{
     BAD_BOOK, CROSSES_ORIGINAL_END, NO_PRICE, SHARES_EXCEED_KWH, TWO_MONTHS, WRONG_DAY,
     WRONG_QUANTITY,
 };
+
+/// The most kWh that a bill or rebill may be given.
+const MOST_KWH_GIVEN: u32 = 40_000_000;
 
 /// How many prices a book has.
 const BOOK_LENGTH: usize = 1_740;
@@ -61,7 +64,7 @@ impl BillNumbers {
             Kind::Flexible => HIGHEST_PRICE,
             Kind::Fixed { .. } | Kind::Variable | Kind::Index => 0,
         };
-        if i64::from(self.kwh) > MOST_KWH
+        if self.kwh > MOST_KWH_GIVEN
             || i64::from(self.supply) > HIGHEST_PRICE
             || i64::from(self.wap) > highest_wap
         {

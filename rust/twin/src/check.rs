@@ -1,5 +1,5 @@
-//! The well-formed check (document 01, section on the packed ledger; document 02, papers 1, 3
-//! and 5): one pass over the contracts, and one over the rows.
+//! The well-formed check (document 01, section on the packed ledger; document 02, papers 1, 3, 5
+//! and 6): one pass over the contracts, and one over the rows.
 
 use crate::contracts::{Contract, Kind, FIRST_SCHEME_DAY, LAST_DAY};
 use crate::packed::{
@@ -11,8 +11,8 @@ use crate::refusals::{NOT_WELL_FORMED, NO_SUCH_CONTRACT, WRONGLY_OPEN};
 /// The most claims that are made.
 pub const MOST_CLAIMS: u32 = 1_000;
 
-/// The most kWh of a bill.
-pub const MOST_KWH: i64 = 100_000_000;
+/// The most kWh of a row, which may be more than a bill is given.
+const MOST_KWH_STORED: i64 = 100_000_000;
 
 /// The highest price in mils.
 pub const HIGHEST_PRICE: i64 = 999_999;
@@ -107,7 +107,7 @@ fn check_rows(slots: &[RowSlot], contracts: &Contracts) -> Option<(usize, i64)> 
 fn row_ok(contract: &Contract, Row { bill, amount }: &Row) -> bool {
     span_ok(bill.first, bill.last)
         && !contract.crosses_original_end(bill.first, bill.last)
-        && bill.kwh <= MOST_KWH
+        && bill.kwh <= MOST_KWH_STORED
         && bill.rest() >= 0
         && bill.supply <= HIGHEST_PRICE
         && bill.reference <= HIGHEST_PRICE

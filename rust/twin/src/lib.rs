@@ -1,4 +1,4 @@
-//! The calls of document 01, with papers 1 to 5 of document 02, hand-written in Rust on the same
+//! The calls of document 01, with papers 1 to 6 of document 02, hand-written in Rust on the same
 //! packed bytes: what the times of the proved calls are measured against.
 //!
 //! Each call answers three numbers in document 01's order, unused ones 0, or the number that

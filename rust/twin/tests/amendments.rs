@@ -308,7 +308,7 @@ fn number_17_in_checking_order() {
     let ledger = &mut ledger[..];
     assert_eq!(twin::bill(ledger, &BOOK, span(600, 852)), Err(7));
     let large = BillNumbers {
-        kwh: 100_000_001,
+        kwh: 40_000_001,
         ..span(600, 601)
     };
     assert_eq!(twin::bill(ledger, &BOOK, large), Err(17));

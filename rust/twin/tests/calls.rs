@@ -1,23 +1,12 @@
 //! The run of document 01 (section "The program and one run"), the bytes of one bill, a full
 //! ledger, the last claim, and the landmark days.
 
+mod april;
+
+use april::april;
 use twin::{BillNumbers, LEDGER_LENGTH};
 
 const BOOK: [u32; 1_740] = [0; 1_740];
-
-/// The one bill of the run, with its kWh.
-fn numbers(kwh: u32) -> BillNumbers {
-    BillNumbers {
-        contract: 0,
-        first: 486,
-        last: 515,
-        kwh,
-        supply: 67_030,
-        wap: 31_980,
-        etii_share: 0,
-        qhs_share: 0,
-    }
-}
 
 #[test]
 fn the_run() {
@@ -27,14 +16,14 @@ fn the_run() {
     assert_eq!(ledger, [0; LEDGER_LENGTH]);
     assert_eq!(twin::open(ledger, 0, 0, 2, 0, 0), Ok([0; 3]));
     assert_eq!(
-        twin::bill(ledger, &BOOK, numbers(1_000)),
+        twin::bill(ledger, &BOOK, april(1_000)),
         Ok([31_980, 17_800, 17_800_000])
     );
     assert_eq!(twin::claim(ledger), Ok([1_780, 0, 0]));
     assert_eq!(twin::cert(ledger, 0, 1, 486), Ok([49_840_000, 1, 0]));
     assert_eq!(twin::claim(ledger), Ok([4_984, 0, 0]));
     assert_eq!(
-        twin::rebill(ledger, &BOOK, numbers(901)),
+        twin::rebill(ledger, &BOOK, april(901)),
         Ok([31_980, 67_640, -6_696_360])
     );
     assert_eq!(twin::report(ledger, 0), Ok([1, 901, 60_943_640]));
@@ -43,7 +32,7 @@ fn the_run() {
     assert_eq!(twin::total(ledger), Ok([0, -60_940_000, 0]));
     let above = BillNumbers {
         contract: 64,
-        ..numbers(1)
+        ..april(1)
     };
     assert_eq!(twin::bill(ledger, &BOOK, above), Err(4));
 }
@@ -57,16 +46,16 @@ fn the_bytes_of_a_bill() {
         contract: 1,
         first: 486,
         last: 515,
-        kwh: 99_999_999,
+        kwh: 39_999_999,
         supply: 67_030,
         wap: 11_400,
-        etii_share: 40_000_001,
-        qhs_share: 35_000_003,
+        etii_share: 16_000_001,
+        qhs_share: 14_000_003,
     };
-    // 24,999,995 kWh at 6,970 ticks, the ETII share at 12,591 and the QHS share at 114,000
+    // 9,999,995 kWh at 6,970 ticks, the ETII share at 12,591 and the QHS share at 114,000
     assert_eq!(
         twin::bill(&mut ledger, &BOOK, bill),
-        Ok([11_400, 6_970, 4_667_890_319_741])
+        Ok([11_400, 6_970, 1_867_156_319_741])
     );
     assert_eq!(ledger[..8], [0x80, 0, 0, 0, 0, 0, 0, 0]);
     assert_eq!(ledger[8..17], [0; 9]);
@@ -77,12 +66,12 @@ fn the_bytes_of_a_bill() {
         "000001",
         "0111100110",
         "1000000011",
-        "101111101011110000011111111",
-        "010011000100101101000000001",
-        "010000101100000111011000011",
+        "010011000100101100111111111",
+        "000111101000010010000000001",
+        "000110101011001111110000011",
         "00000010110010001000",
         "00010000010111010110",
-        "00000001000011111011010011111100011100000101111101",
+        "00000000011011001010111011001100000110110111111101",
         "00"
     );
     let bits: String = ledger[584..609]
@@ -101,7 +90,7 @@ fn a_full_ledger_takes_no_bill() {
             contract,
             first: day,
             last: day,
-            ..numbers(1)
+            ..april(1)
         };
         twin::bill(ledger, &BOOK, bill)
     };

@@ -55,7 +55,7 @@ fn number_15_comes_after_7_and_before_8() {
     let too_late = span(486, 852);
     assert_eq!(twin::bill(&mut ledger, &BOOK, too_late), Err(7));
     let too_much = BillNumbers {
-        kwh: 100_000_001,
+        kwh: 40_000_001,
         etii_share: u32::MAX,
         ..span(486, 516)
     };

@@ -78,7 +78,7 @@ fn number_14_in_checking_order() {
     let exceeding = april(1_000, 1);
     let mut ledger = billed(april(0, 0));
     let large = BillNumbers {
-        kwh: 100_000_001,
+        kwh: 40_000_001,
         etii_share: u32::MAX,
         ..exceeding
     };

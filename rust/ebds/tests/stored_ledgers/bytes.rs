@@ -3,7 +3,6 @@
 
 use crate::{span, AT_31_980, AT_40_000};
 use ebds::BillNumbers;
-use std::ops::Range;
 
 /// The length of a ledger then.
 const STORED_LENGTH: usize = 25_928;
@@ -57,34 +56,6 @@ fn bytes_of(hexadecimal: &str) -> Vec<u8> {
         .step_by(2)
         .map(|at| u8::from_str_radix(&hexadecimal[at..at + 2], 16).expect("two digits"))
         .collect()
-}
-
-/// Where the last eight bytes of a row stand: the last 12 bits of S, the amount of 50 bits and two
-/// zero bits.
-fn end_of_row(place: usize) -> Range<usize> {
-    let end = 584 + 25 * (place + 1);
-    end - 8..end
-}
-
-/// These bytes as a number.
-fn number_at_end(ledger: &[u8], place: usize) -> u64 {
-    let mut bytes = [0; 8];
-    bytes.copy_from_slice(&ledger[end_of_row(place)]);
-    u64::from_be_bytes(bytes)
-}
-
-/// The amount of a row.
-pub fn amount(ledger: &[u8], place: usize) -> u64 {
-    number_at_end(ledger, place) << 12 >> 14
-}
-
-/// The ledger with another amount in a row.
-pub fn with_amount(ledger: &[u8], place: usize, amount: u32) -> Vec<u8> {
-    let supply = number_at_end(ledger, place) >> 52 << 52;
-    let end = supply | u64::from(amount) << 2;
-    let mut changed = ledger.to_vec();
-    changed[end_of_row(place)].copy_from_slice(&end.to_be_bytes());
-    changed
 }
 
 /// A stored ledger in which the class or the QHS minimum changes inside a row of contract 3.

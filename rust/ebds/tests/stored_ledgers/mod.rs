@@ -4,8 +4,9 @@
 
 mod bytes;
 
+use crate::row_fields::with_field;
 use crate::{changed_by, etii, shared, span, AT_31_980, AT_40_000, BOOK};
-use bytes::{amount, with_amount, CHANGED_INSIDE, SAME_AMOUNTS, WITHOUT_CHANGES};
+use bytes::{ChangedInside, CHANGED_INSIDE, SAME_AMOUNTS, WITHOUT_CHANGES};
 use ebds::{
     calls, BillNumbers, Billed, Certificate, Claimed, Fuel, Kind, Ledger, Rebilled, Refusal,
     Reported, Territory, Totalled, BOOK_LENGTH,
@@ -55,12 +56,17 @@ fn the_bytes_of_the_earlier_layout_are_number_2() {
     expect_not_well_formed(&stored, AT_31_980, "25,928 bytes");
 }
 
+/// The stored ledger with an amount in the row in which something changes.
+fn with_amount(case: &ChangedInside, amount: u32) -> Vec<u8> {
+    let stored = case.stored.bytes();
+    with_field(&stored, case.place, "amount", amount.into())
+}
+
 #[test]
 fn an_amount_by_the_first_day_is_number_2() {
     for case in CHANGED_INSIDE {
         let ledger = case.stored.bytes();
-        let by_first_day = u64::from(case.by_first_day);
-        assert_eq!(amount(&ledger, case.place), by_first_day);
+        assert!(ledger == with_amount(&case, case.by_first_day));
         expect_not_well_formed(&ledger, case.bill, case.description);
         let refused = Ledger::from_bytes(&ledger);
         assert_eq!(refused, Err(Refusal::NotWellFormed));
@@ -71,7 +77,7 @@ fn an_amount_by_the_first_day_is_number_2() {
 #[test]
 fn the_amount_by_day_is_taken() {
     for case in CHANGED_INSIDE {
-        let ledger = with_amount(&case.stored.bytes(), case.place, case.by_day);
+        let ledger = with_amount(&case, case.by_day);
         let answers = on_copies(&ledger, case.bill).map(|(answer, _)| answer);
         let taken = answers.iter().all(Result::is_ok);
         assert!(taken, "{}: {answers:?}", case.description);
@@ -86,10 +92,9 @@ fn the_amount_by_day_is_taken() {
 #[test]
 fn a_tick_more_or_less_than_the_amount_by_day_is_number_2() {
     for case in CHANGED_INSIDE {
-        let stored = case.stored.bytes();
-        let less = with_amount(&stored, case.place, case.by_day - 1);
+        let less = with_amount(&case, case.by_day - 1);
         expect_not_well_formed(&less, case.bill, case.description);
-        let more = with_amount(&stored, case.place, case.by_day + 1);
+        let more = with_amount(&case, case.by_day + 1);
         expect_not_well_formed(&more, case.bill, case.description);
     }
 }
