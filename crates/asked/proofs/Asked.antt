@@ -501,10 +501,10 @@ module _ (v : View) (book : List ℕ) where
     given-amounts g = ((g.span.right.prices, g.span.right.number, g.span.right.opened, g.span.right.days), g.span.months, g.span.inside, g.amounts)
 
     pub bill-by-8 : (refusal rules v (Call.Bill q with book) ≡ 8) ↔ AtNumber8
-    bill-by-8 = let law = asked.number_eight.bills v q book in (λ e. given-amounts (law.0 e), λ t. law.1 (amounts-given t))
+    bill-by-8 = let law = asked.number_eight v (Call.Bill q with book) in (λ e. given-amounts (law.0 e), λ t. law.1 (amounts-given t))
 
     pub rebill-by-8 : (refusal rules v (Call.Rebill q with book) ≡ 8) ↔ AtNumber8
-    rebill-by-8 = let law = asked.number_eight.rebills v q book in (λ e. given-amounts (law.0 e), λ t. law.1 (amounts-given t))
+    rebill-by-8 = let law = asked.number_eight v (Call.Rebill q with book) in (λ e. given-amounts (law.0 e), λ t. law.1 (amounts-given t))
 
     -- the most kWh
     pub bill-kwh : refusal rules v (Call.Bill q with book) ≡ 0 → q.kwh ≤ 40000000
@@ -518,6 +518,21 @@ module _ (v : View) (book : List ℕ) where
 
   pub no-cancel-by-15 : (c first : ℕ) → refusal rules v (Call.Cancel c first with book) ≡ 15 → ⊥
   no-cancel-by-15 c first = (asked.number_fifteen v (Call.Cancel c first with book)).0
+
+  pub no-cert-by-8 : (c class effective : ℕ) → refusal rules v (Call.Cert c class effective with book) ≡ 8 → ⊥
+  no-cert-by-8 c class effective = (asked.number_eight v (Call.Cert c class effective with book)).0
+
+  pub no-cancel-by-8 : (c first : ℕ) → refusal rules v (Call.Cancel c first with book) ≡ 8 → ⊥
+  no-cancel-by-8 c first = (asked.number_eight v (Call.Cancel c first with book)).0
+
+  pub no-claim-by-8 : refusal rules v (Call.Claim with book) ≡ 8 → ⊥
+  no-claim-by-8 = (asked.number_eight v (Call.Claim with book)).0
+
+  pub no-report-by-8 : (c : ℕ) → refusal rules v (Call.Report c with book) ≡ 8 → ⊥
+  no-report-by-8 c = (asked.number_eight v (Call.Report c with book)).0
+
+  pub no-amend-by-8 : (c end fix entry : ℕ) → refusal rules v (Call.Amend c end fix entry with book) ≡ 8 → ⊥
+  no-amend-by-8 c end fix entry = (asked.number_eight v (Call.Amend c end fix entry with book)).0
 
 -- 8: kWh above 40,000,000, S or WAP above 999,999, or a WAP that isn't 0 where the contract isn't flexible
 pub wrong-amounts : (k : Contract) (q : Request)

@@ -29,6 +29,7 @@ pub mod Computed
 pub mod Run
 pub mod PriceOfEveryDay
 pub mod AcceptedCalls
+pub mod RequestNumbers
 pub mod NumberFifteen
 pub mod NumberEight
 pub mod LargestBill

@@ -1,4 +1,4 @@
--- Number 8 turns down a bill or rebill whose kWh, S or WAP is out of range, where no earlier test fits. Assumes nothing.
+-- Number 8 turns down a bill or rebill whose kWh, S or WAP is out of range, where no earlier test fits, and no other call. Assumes nothing.
 use mathlib.Core.Path.{◌≡◌, refl}
 use mathlib.Core.Bool.{false}
 use mathlib.Core.List.{List, [], ◌∷◌, ◌++◌}
@@ -14,6 +14,7 @@ use Rattle.model.specs.PresentRules.{bad_book, bad_span, bad_months, bad_amounts
 use Rattle.model.specs.AcceptedCalls.{contract_named}
 use Rattle.model.specs.NumberEight.{WrongAmountsGiven, NumberEight}
 use Rattle.model.proofs.Refusals.{fits_any, clear, only-place}
+use Rattle.model.proofs.RequestNumbers.{of-request}
 
 module _ (v : View) (q : Request) (book : List ℕ) where
   -- the tests before number 8
@@ -35,7 +36,7 @@ module _ (v : View) (q : Request) (book : List ℕ) where
 
 pub number_eight : NumberEight
 unfolding refusal tests
-number_eight = record {
-  bills = λ v q book. (given v q book (drop 7 (tests v (Call.Bill q with book))) refl, λ g. rw (g.span.right.prices, g.span.right.number, g.span.right.opened, g.span.right.days, g.span.months, g.span.inside, g.amounts));
-  rebills = λ v q book. (given v q book (drop 7 (tests v (Call.Rebill q with book))) refl, λ g. rw (g.span.right.prices, g.span.right.number, g.span.right.opened, g.span.right.days, g.span.months, g.span.inside, g.amounts));
-}
+number_eight = of-request 7 WrongAmountsGiven
+    (λ v q book. (given v q book (drop 7 (tests v (Call.Bill q with book))) refl, λ g. rw (g.span.right.prices, g.span.right.number, g.span.right.opened, g.span.right.days, g.span.months, g.span.inside, g.amounts)))
+    (λ v q book. (given v q book (drop 7 (tests v (Call.Rebill q with book))) refl, λ g. rw (g.span.right.prices, g.span.right.number, g.span.right.opened, g.span.right.days, g.span.months, g.span.inside, g.amounts)))
+    (refl, (refl, (refl, (refl, (refl, (refl, (refl, (refl, tt))))))))

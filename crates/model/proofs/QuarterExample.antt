@@ -6,7 +6,7 @@ use Rattle.model.specs.PresentRules.{bill_ok, present_rules}
 use Rattle.model.specs.History.{state_after}
 use Rattle.model.specs.WellFormed.{before, WellFormed}
 use Rattle.model.specs.QuarterExample.{openings, stored_quarters, quarter_book, quarter_calls, quarter_answers, QuarterExample}
-use Rattle.model.proofs.StoredExample.{formed-with, balanced-with}
+use Rattle.model.proofs.StoredExample.{formed-with, of-bill, balanced-with}
 use Rattle.model.proofs.Computed.{answers_computed}
 
 -- the two contracts are opened in a fresh ledger, and then it has the rows
@@ -19,4 +19,4 @@ well_formed =
 
 pub quarter_example : QuarterExample
 unfolding answers_computed stored_quarters state_after quarter_book quarter_calls quarter_answers
-quarter_example = record { well_formed = well_formed; balanced = balanced-with _ _ _ _ _ _ stored_quarters well_formed refl refl; answered = refl }
+quarter_example = record { well_formed = well_formed; balanced = balanced-with stored_quarters _ well_formed (of-bill _ _ _, (of-bill _ _ _, tt)) refl refl; answers = refl }

@@ -7,13 +7,25 @@ use Rattle.model.specs.OpenContracts.{contract_at, is_open}
 use Rattle.model.specs.Book.{reference}
 use Rattle.model.specs.declared.Call.{Call}
 use Rattle.model.specs.declared.Request.{Request}
-use Rattle.model.specs.Calls.{View, named, sharing, ends_after, ◌with◌}
+use Rattle.model.specs.Calls.{CallWithBook, View, named, sharing, ends_after, ◌with◌}
 use Rattle.model.specs.Rules.{refusal}
 use Rattle.model.specs.PresentRules.{bad_book, bad_number, not_amendable, bad_kind, bad_class, bad_days, bad_effective, bad_span, bad_amendment_days, bad_months, bad_amounts, bad_shares, no_price, present_rules}
 
 -- the call is accepted
 abbrev pub Accepted : View → Call → (book : List ℕ) → Type 0
 Accepted v c book = refusal present_rules v (c with book) ≡ 0
+
+-- a bill or rebill with that said of its request; no other call is one
+abbrev pub OfRequest : (View → Request → (book : List ℕ) → Type 0) → View → CallWithBook → Type 0
+OfRequest P v (Call.Open c fuel kind fix entry with book) = ⊥
+OfRequest P v (Call.Bill q with book) = P v q book
+OfRequest P v (Call.Rebill q with book) = P v q book
+OfRequest P v (Call.Cert c class effective with book) = ⊥
+OfRequest P v (Call.Cancel c first with book) = ⊥
+OfRequest P v (Call.Claim with book) = ⊥
+OfRequest P v (Call.Report c with book) = ⊥
+OfRequest P v (Call.Total with book) = ⊥
+OfRequest P v (Call.Amend c end fix entry with book) = ⊥
 
 -- a request that 3, 4, 5 and 7 let pass: its book, contract and days
 pub record RightContractAndDays (v : View) (q : Request) (book : List ℕ) : Type 0 where

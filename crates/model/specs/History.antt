@@ -1,9 +1,10 @@
 -- A history: a list of calls, run from a fresh ledger by a machine and on a blank sheet. Assumes nothing.
 use Rattle.std.specs.Prelude.{List, [], ◌∷◌, ℕ, Result}
+use Rattle.model.specs.declared.Row.{Row}
 use Rattle.model.specs.declared.Answer.{Answer}
 use Rattle.model.specs.Calls.{CallWithBook}
 use Rattle.model.specs.Rules.{Rules}
-use Rattle.model.specs.Ledger.{Ledger, fresh, step, answer}
+use Rattle.model.specs.Ledger.{Ledger, fresh, ledger_with_rows, step, answer}
 use Rattle.model.specs.Sheet
 use Rattle.model.specs.Sheet.{Sheet, blank}
 
@@ -39,3 +40,7 @@ answers_to m t h = replies m.step m.answer (m.start t) h
 -- the machine that keeps the ledger's facts as they are
 abbrev pub ledger_machine : Rules → Machine
 ledger_machine R = record { State = Ledger; start = fresh; step = step R; answer = answer R; facts = λ l. l }
+
+-- the ledger that calls leave, from a fresh one on, with these rows in place of its own
+abbrev pub left_with_rows : Rules → (territory : ℕ) → List CallWithBook → List Row → Ledger
+left_with_rows R t calls rows = ledger_with_rows (state_after (ledger_machine R) t calls) rows

@@ -6,8 +6,10 @@ use Rattle.model.specs.declared.Answer.{Answer}
 use Rattle.model.specs.declared.Answer.TheVariants.{Billed, Rebilled, Certified, Cancelled, Claimed, Reported, Totalled}
 use Rattle.model.specs.declared.Call.{Call}
 use Rattle.model.specs.Calls.{CallWithBook, ◌with◌, request_of}
+use Rattle.model.specs.PresentRules.{present_rules}
 use Rattle.model.specs.Ledger.{Ledger}
-use Rattle.model.specs.StoredExample.{ledger_with, StoredExample}
+use Rattle.model.specs.History.{left_with_rows}
+use Rattle.model.specs.StoredExample.{StoredExample}
 
 -- the row of a contract's bill for April to June 2023, without shares
 abbrev pub quarter_row : (contract kwh reference supply amount : ℕ) → Row
@@ -20,7 +22,7 @@ openings = (Call.Open 5 1 1 0 0 with []) ∷ (Call.Open 6 0 3 0 0 with []) ∷ [
 
 -- a Northern Ireland ledger with a quarter of each: 3,000 kWh × 10 × (11,050 − 10,700) and 2,000 kWh × 10 × (32,000 − 30,200) ticks
 unfoldable pub stored_quarters : Ledger
-stored_quarters = ledger_with 1 openings (quarter_row 5 3000 11050 20000 10500000 ∷ quarter_row 6 2000 32000 60000 36000000 ∷ [])
+stored_quarters = left_with_rows present_rules 1 openings (quarter_row 5 3000 11050 20000 10500000 ∷ quarter_row 6 2000 32000 60000 36000000 ∷ [])
 
 -- what was answered to the two bills: R, rate and amount (the two contracts' openings answered no numbers)
 abbrev pub earlier_answers : List (Result Answer ℕ)

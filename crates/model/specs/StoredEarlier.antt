@@ -12,8 +12,8 @@ use Rattle.model.specs.OpenContracts.{Contracts, contract_of}
 use Rattle.model.specs.Rules.{Rules}
 use Rattle.model.specs.PresentRules.{present_rules}
 use Rattle.model.specs.Ledger.{Ledger}
+use Rattle.model.specs.History.{left_with_rows}
 use Rattle.model.specs.WellFormed.{WellFormed}
-use Rattle.model.specs.StoredExample.{ledger_with}
 
 -- the rules in force with another amount; with the earlier one they ask of amounts what was asked before
 abbrev pub rules_with : (amount : Terms → Bill → ℕ) → Rules
@@ -39,7 +39,7 @@ certified_inside = (Call.Open 5 0 2 0 0 with []) ∷ (Call.Cert 5 1 496 with [])
 -- the ledger with that row, stored with an amount
 unfoldable pub stored_with : (amount : ℕ) → Ledger
 stored_with amount =
-    ledger_with 0 certified_inside
+    left_with_rows present_rules 0 certified_inside
     (record { bill = record { contract = 5; first = 486; last = 515; kwh = 1000; etii = 0; qhs = 0; reference = 31980; supply = 67030 }; amount = amount } ∷ [])
 
 pub record StoredEarlier : Type 0 where

@@ -8,7 +8,7 @@
 use twin::BillNumbers;
 
 use crate::both_ledgers::BothLedgers;
-use crate::ledgers::{kwh, reference_price, varied, FIXED, FLEXIBLE};
+use crate::ledgers::{reference_price, varied, varied_kwh, FIXED, FLEXIBLE};
 
 /// How many contracts there are, all of them open.
 pub const CONTRACTS: u32 = 64;
@@ -122,7 +122,7 @@ impl Contents {
     pub fn bill_numbers(self, contract: u32, bill: u32) -> BillNumbers {
         let first = self.first_day(contract, bill);
         let place = 1_024 * contract + bill;
-        let kwh = kwh(place);
+        let kwh = varied_kwh(place);
         let (etii_share, qhs_share) = shares(contract, bill, kwh);
         BillNumbers {
             contract,

@@ -84,7 +84,7 @@ fn open(ledgers: &mut BothLedgers, contract: u32) {
 /// The numbers of a contract's bill for one day.
 pub fn bill_numbers(contract: u32, day: u32) -> twin::BillNumbers {
     let place = 1_024 * contract + day;
-    let kwh = kwh(place);
+    let kwh = varied_kwh(place);
     let (etii_share, qhs_share) = shares(day, kwh);
     twin::BillNumbers {
         contract,
@@ -109,8 +109,8 @@ fn shares(day: u32, kwh: u32) -> (u32, u32) {
     }
 }
 
-/// The kWh of a bill for a place in the ledger, below the most that a bill is given.
-pub fn kwh(place: u32) -> u32 {
+/// The kWh of a bill for a place in the ledger, below the most that a bill may give.
+pub fn varied_kwh(place: u32) -> u32 {
     varied(place, 0, MOST_KWH_GIVEN)
 }
 

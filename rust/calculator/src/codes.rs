@@ -20,10 +20,10 @@ pub const SCHEME_FIRST_DAY: u32 = 486;
 /// The number of 26 April 2023, the earliest effective day of a QHS certificate.
 pub const QHS_FIRST_DAY: u32 = 511;
 
-/// Number 8: the most kWh that a bill or rebill may be given.
+/// Number 8: the most kWh that a bill or rebill may give.
 pub const MOST_KWH_GIVEN: u32 = 40_000_000;
 
-/// The most kWh of a held row; one stored earlier may have more than a bill is given (document
+/// The most kWh of a held row; one stored earlier may have more than a bill may give (document
 /// 02, paper 6).
 pub const MOST_KWH_STORED: u32 = 100_000_000;
 

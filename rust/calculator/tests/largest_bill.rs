@@ -1,6 +1,6 @@
 //! The most kWh of a bill or rebill, 40,000,000, and stored rows of up to 100,000,000 (document
 //! 02, paper 6): number 8 at its edges and in checking order, and the calls on stored rows of more
-//! kWh than a bill is given.
+//! kWh than a bill may give.
 //!
 //! At R 31,980 and S 67,030 mils a kWh of electricity has 17,800 ticks in the baseline class,
 //! 67,640 in ETII and 319,800 in QHS; one of gas has 6,970 in the baseline class.
@@ -19,11 +19,11 @@ const BASELINE: i64 = 17_800;
 const ETII: i64 = 67_640;
 const QHS: i64 = 319_800;
 
-/// kWh that a bill or rebill may be given.
+/// kWh that a bill or rebill may give.
 const TAKEN: [u32; 4] = [0, 1, 39_999_999, 40_000_000];
 
 /// kWh that number 8 refuses; a row's 27 bits have room for those up to 134,217,727.
-const REFUSED: [u32; 8] = [
+const TOO_MANY: [u32; 8] = [
     40_000_001,
     99_999_999,
     100_000_000,
@@ -82,7 +82,7 @@ fn more_kwh_are_refused() {
         let line = |name, span, kwh| format!("{name} {number} {span} {kwh} 67030 {wap} 0 0");
         let held = line("bill", "500 515", 1_000);
         desk.expect(&held, &[31_980, rate, 1_000 * rate]);
-        for kwh in REFUSED {
+        for kwh in TOO_MANY {
             desk.expect_refusal(&line("bill", "486 499", kwh), 8);
             desk.expect_refusal(&line("rebill", "500 515", kwh), 8);
         }
@@ -138,7 +138,7 @@ fn number_8_in_checking_order() {
     desk.expect_refusal("rebill 0 500 500 40000001 1 0 0 0", 3);
 }
 
-/// kWh of stored rows that no bill is given.
+/// kWh of stored rows that no bill may give.
 const STORED: [i64; 4] = [40_000_001, 70_000_003, 99_999_999, 100_000_000];
 
 /// A desk with the ledger as it is stored: contract 4 is flexible electricity and has a row of 16

@@ -56,7 +56,7 @@ pub struct Counts {
     pub changes: ChangesMet,
     /// The amendments, and the calls on amended contracts.
     amendments: Sorts,
-    /// The bills and rebills of the most kWh that they may be given, and of one more.
+    /// The bills and rebills of the most kWh that they may give, and of one more.
     most_kwh: Sorts,
 }
 
@@ -77,7 +77,7 @@ pub struct Findings {
     pub rows: Sorts,
     /// The calls on rows across months.
     pub rows_across_months: Sorts,
-    /// The calls on rows of more kWh than a bill is given.
+    /// The calls on rows of more kWh than a bill may give.
     pub larger_rows: Sorts,
     /// The calls on ledgers stored before amounts were by day.
     pub ledgers_stored_earlier: Sorts,
@@ -255,7 +255,7 @@ impl Findings {
         [
             ("rows", &self.rows),
             ("rows across months", &self.rows_across_months),
-            ("rows of more kWh than a bill", &self.larger_rows),
+            ("rows of more kWh than a bill may give", &self.larger_rows),
             ("ledgers stored earlier", &self.ledgers_stored_earlier),
             ("searches", &self.searches),
             ("disordered ledgers", &self.disordered_ledgers),

@@ -357,7 +357,7 @@ pub fn bill_numbers(
     }
 }
 
-/// The kWh of a bill: at times the most that it may be given or one less, and seldom one more.
+/// The kWh of a bill: at times none, one, the most that it may give, or one less or more.
 fn random_kwh(random: &mut Random) -> u32 {
     let (most, more) = (MOST_KWH_GIVEN, MOST_KWH_GIVEN + 1);
     match random.below(8) {

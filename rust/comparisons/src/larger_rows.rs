@@ -1,9 +1,9 @@
-//! Rows of more kWh than a bill is given. No call makes such a row, but one that is stored stands
+//! Rows of more kWh than a bill may give. No call makes such a row, but one that is stored stands
 //! and is re-rated like others (document 02, paper 6).
 
 use crate::call_made::CallMade;
 use crate::generator::{
-    bill, bill_numbers, cancel, cert, claim, held_row, rebill, report, shares_within, total,
+    amend, bill, bill_numbers, cancel, cert, claim, held_row, rebill, report, shares_within, total,
     Profile,
 };
 use crate::most_kwh_met::is_refused_for_kwh;
@@ -17,19 +17,20 @@ use calculator::packed::{Facts, Row};
 use calculator::rates::Bill;
 
 pub const LARGER_ROWS: StoredRows = StoredRows {
-    kind: "histories of stored rows of more kWh than a bill",
+    kind: "histories of stored rows of more kWh than a bill may give",
     histories: 350,
-    facts: stored_facts,
+    draw_facts: stored_facts,
     includes: is_larger,
     profile: ON_LARGER_ROWS,
-    name: |_, row| name(row.bill.kwh).to_string(),
+    name_of: |_, row| name(row.bill.kwh).to_string(),
     event_of_rebill,
-    sorts: |findings| &mut findings.larger_rows,
+    sorts_in: |findings| &mut findings.larger_rows,
 };
 
-/// Calls on the rows and on their contracts, with as many rebills as it takes to give them every
-/// number of kWh.
+/// Calls on the rows and on their contracts. Rebills with the most kWh and with more have draws of
+/// their own, since other rebills seldom have either.
 const ON_LARGER_ROWS: &Profile = &[
+    (2, amend),
     (11, bill),
     (18, rebill),
     (12, rebill_with_most_kwh),
@@ -48,12 +49,12 @@ const CALLS_BEFORE: usize = 100;
 const FEWEST_KWH: u32 = MOST_KWH_GIVEN + 1;
 
 const FEWEST: &str = "row of 40,000,001 kWh";
-const ALL_BUT_ONE: &str = "row of 99,999,999 kWh";
+const ONE_BELOW_MOST: &str = "row of 99,999,999 kWh";
 const MOST: &str = "row of 100,000,000 kWh";
 const BETWEEN: &str = "row of 40,000,002 to 99,999,998 kWh";
 
 /// A row by its kWh.
-const NAMES: [&str; 4] = [FEWEST, BETWEEN, ALL_BUT_ONE, MOST];
+const NAMES: [&str; 4] = [FEWEST, BETWEEN, ONE_BELOW_MOST, MOST];
 
 const REBILL_REFUSED: &str = "rebilled with more than 40,000,000 kWh and refused by 8";
 const REBILLED_WITH_MOST: &str = "rebilled with 40,000,000 kWh";
@@ -61,7 +62,7 @@ const REBILLED_WITH_FEWER: &str = "rebilled with fewer kWh";
 
 const EVENTS_OF_REBILL: [&str; 3] = [REBILL_REFUSED, REBILLED_WITH_MOST, REBILLED_WITH_FEWER];
 
-/// One row in that many has no more kWh than a bill is given.
+/// One row in that many has no more kWh than a bill may give.
 const OTHER_ROW_ONCE_IN: usize = 6;
 
 /// Every sort.
@@ -70,7 +71,7 @@ pub fn sorts() -> Vec<String> {
     stored_row_events::sorts(&names, &EVENTS_OF_REBILL)
 }
 
-/// Whether a row has more kWh than a bill is given.
+/// Whether a row has more kWh than a bill may give.
 fn is_larger(_: &Facts, row: &Row) -> bool {
     row.bill.kwh > MOST_KWH_GIVEN.into()
 }
@@ -79,7 +80,7 @@ fn is_larger(_: &Facts, row: &Row) -> bool {
 fn name(kwh: i64) -> &'static str {
     match kwh {
         40_000_001 => FEWEST,
-        99_999_999 => ALL_BUT_ONE,
+        99_999_999 => ONE_BELOW_MOST,
         100_000_000 => MOST,
         _ => BETWEEN,
     }
@@ -88,7 +89,8 @@ fn name(kwh: i64) -> &'static str {
 fn event_of_rebill(made: &CallMade, numbers: BillNumbers) -> Option<&'static str> {
     match made.outcome {
         Ok(_) if numbers.kwh == MOST_KWH_GIVEN => Some(REBILLED_WITH_MOST),
-        Ok(_) => Some(REBILLED_WITH_FEWER),
+        Ok(_) if numbers.kwh < MOST_KWH_GIVEN => Some(REBILLED_WITH_FEWER),
+        Ok(_) => None,
         Err(_) => is_refused_for_kwh(made, numbers).then_some(REBILL_REFUSED),
     }
 }
@@ -123,7 +125,7 @@ fn larger_kwh(random: &mut Random) -> u32 {
     random.one_of(&[FEWEST_KWH, MOST_KWH_STORED - 1, MOST_KWH_STORED, any])
 }
 
-/// The rebill of a held row, which keeps its span, with the most kWh that it may be given.
+/// The rebill of a held row, which keeps its span, with the most kWh that it may give.
 fn rebill_with_most_kwh(random: &mut Random, facts: &Facts) -> Call {
     rebill_with_kwh(random, facts, |_, _| MOST_KWH_GIVEN)
 }
@@ -142,8 +144,12 @@ fn rebill_with_kwh(random: &mut Random, facts: &Facts, kwh: fn(&mut Random, &Row
         return bill(random, facts);
     };
     let numbers = bill_numbers(random, facts, row.contract, row.bill.span());
+    let kwh = kwh(random, &row);
+    let (etii_share, qhs_share) = shares_within(random, kwh);
     Call::Rebill(BillNumbers {
-        kwh: kwh(random, &row),
+        kwh,
+        etii_share,
+        qhs_share,
         ..numbers
     })
 }

@@ -1,4 +1,4 @@
-//! How often bills and rebills with the most kWh that they may be given were accepted, and refused
+//! How often bills and rebills with the most kWh that they may give were accepted, and refused
 //! by number 8 with one more (document 02, paper 6).
 
 use crate::call_made::CallMade;

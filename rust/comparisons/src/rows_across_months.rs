@@ -18,15 +18,15 @@ use calculator::refusals::SPAN_TOUCHES_TWO_MONTHS;
 pub const ROWS_ACROSS_MONTHS: StoredRows = StoredRows {
     kind: "histories of stored rows across months",
     histories: 1_000,
-    facts: stored_facts,
+    draw_facts: stored_facts,
     includes: is_across_months,
     profile: ON_ROWS,
-    name: |facts, row| {
+    name_of: |facts, row| {
         let contract = contract_name(&contract_of(facts, row));
         name(&contract, months_touched(row.bill.span()))
     },
     event_of_rebill,
-    sorts: |findings| &mut findings.rows_across_months,
+    sorts_in: |findings| &mut findings.rows_across_months,
 };
 
 /// The calls that leave the facts of a ledger before rows are made longer.

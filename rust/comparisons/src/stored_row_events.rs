@@ -40,8 +40,8 @@ pub fn sort(name: &str, event: &str) -> String {
     format!("{name}, {event}")
 }
 
-/// Whether the call names the row's contract and, where it names a first day too, the row; a call
-/// that names no contract concerns a row with an amount.
+/// Whether a call other than open and amend, which change no row, names the row's contract and, where
+/// it names a first day too, the row; a call that names no contract concerns a row with an amount.
 pub fn concerns(call: &Call, row: &Row) -> bool {
     match *call {
         Call::Cert { contract, .. } | Call::Report { contract } => contract == row.contract,

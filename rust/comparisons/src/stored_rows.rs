@@ -24,17 +24,17 @@ pub struct StoredRows {
     /// How many histories there are.
     pub histories: u64,
     /// Draws the facts of a ledger that holds such rows.
-    pub facts: fn(&mut Random) -> Facts,
+    pub draw_facts: fn(&mut Random) -> Facts,
     /// Whether a held row is one of them.
     pub includes: fn(&Facts, &Row) -> bool,
     /// The calls on them and on their contracts.
     pub profile: &'static Profile,
     /// The name under which a row is counted.
-    pub name: fn(&Facts, &Row) -> String,
+    pub name_of: fn(&Facts, &Row) -> String,
     /// What a rebill of a row does.
     pub event_of_rebill: fn(&CallMade, BillNumbers) -> Option<&'static str>,
     /// Where the calls are counted.
-    pub sorts: fn(&mut Findings) -> &mut Sorts,
+    pub sorts_in: fn(&mut Findings) -> &mut Sorts,
 }
 
 /// The ledgers' territories; index contracts are for Northern Ireland only.
@@ -66,7 +66,7 @@ impl StoredRows {
         let kind = self.kind;
         findings.library.count_run(kind);
         let mut random = Random::new(seed, kind, number);
-        let facts = (self.facts)(&mut random);
+        let facts = (self.draw_facts)(&mut random);
         let mut history = History {
             ledger: pack(&facts),
             facts,
@@ -81,7 +81,7 @@ impl StoredRows {
             let book = random_book(&mut random, &call);
             let count = |findings: &mut Findings, made: &CallMade| {
                 for sort in self.sorts_of_call(made) {
-                    (self.sorts)(findings).count(&sort);
+                    (self.sorts_in)(findings).count(&sort);
                 }
             };
             history.compare_next_call(findings, &book, &call, count, place);
@@ -113,7 +113,7 @@ impl StoredRows {
                 Call::Rebill(numbers) => (self.event_of_rebill)(made, numbers),
                 _ => event(made, row),
             };
-            Some(sort(&(self.name)(made.before, row), event?))
+            Some(sort(&(self.name_of)(made.before, row), event?))
         });
         met.collect()
     }
@@ -173,7 +173,7 @@ pub mod tests {
             });
             let mut findings = Findings::new();
             for sort in &met {
-                (self.sorts)(&mut findings).count(sort);
+                (self.sorts_in)(&mut findings).count(sort);
             }
             met.into_iter().collect()
         }
@@ -181,7 +181,7 @@ pub mod tests {
         /// The facts of that many ledgers.
         pub fn drawn_facts(&self, ledgers: u64) -> Vec<Facts> {
             let random = |number| Random::new(1, self.kind, number);
-            let facts = (0..ledgers).map(|number| (self.facts)(&mut random(number)));
+            let facts = (0..ledgers).map(|number| (self.draw_facts)(&mut random(number)));
             facts.collect()
         }
     }

@@ -12,7 +12,7 @@ use ebds::{
 use refused_bills::{expect_no_bill, expect_no_rebill};
 use row_fields::with_field;
 
-/// R of every contract here.
+/// R of every contract but those at the highest price.
 const REFERENCE: u32 = 31_980;
 
 /// A book in which every price is published.
@@ -68,7 +68,7 @@ const CONTRACTS: [Contract; 7] = [
     electricity(Kind::Index),
 ];
 
-/// kWh that a bill or rebill may be given.
+/// kWh that a bill or rebill may give.
 const TAKEN: [u32; 4] = [0, 1, 39_999_999, 40_000_000];
 
 /// kWh that number 8 turns down; a row's 27 bits have room for those up to 134,217,727.
@@ -83,7 +83,7 @@ const TOO_MANY: [u32; 8] = [
     u32::MAX,
 ];
 
-/// kWh of stored rows that no bill is given.
+/// kWh of stored rows that no bill may give.
 const STORED: [u32; 4] = [40_000_001, 70_000_003, 99_999_999, 100_000_000];
 
 impl Contract {
@@ -204,7 +204,7 @@ type Change = fn(&mut BillNumbers);
 
 /// The fixed contract 0 has the original end 600, and contract 1 is variable.
 #[test]
-fn numbers_up_to_17_come_before_8() -> Result<(), Refusal> {
+fn the_tests_before_8_come_first() -> Result<(), Refusal> {
     let changes: [(Change, Refusal); 6] = [
         (|bill| bill.contract = 64, Refusal::NoSuchContract),
         (|bill| bill.contract = 2, Refusal::WronglyOpen),

@@ -128,7 +128,7 @@ fn ledger_without_discount() -> Vec<u8> {
     whole
 }
 
-/// A row may have more kWh than a bill is given.
+/// A row may have more kWh than a bill may give.
 #[test]
 fn kwh_above_100_000_000_in_a_row_are_number_2() {
     let with = |kwh| with_field(&ledger_without_discount(), 0, "kWh", kwh);

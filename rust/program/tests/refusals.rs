@@ -371,7 +371,7 @@ fn number_8_kwh_above_40_000_000() {
     }
 }
 
-/// At R 30,201 and S 67,030 a kWh has 10 ticks. One more kWh than is taken changes nothing.
+/// At R 30,201 and S 67,030 a kWh has 10 ticks. 40,000,001 kWh change nothing.
 #[test]
 fn kwh_up_to_40_000_000_are_no_number_8() {
     for kwh in [0, 1, 39_999_999, 40_000_000] {

@@ -12,7 +12,7 @@ use crate::refusals::{
     WRONG_QUANTITY,
 };
 
-/// The most kWh that a bill or rebill may be given.
+/// The most kWh that a bill or rebill may give.
 const MOST_KWH_GIVEN: u32 = 40_000_000;
 
 /// How many prices a book has.

@@ -11,7 +11,7 @@ use crate::refusals::{NOT_WELL_FORMED, NO_SUCH_CONTRACT, WRONGLY_OPEN};
 /// The most claims that are made.
 pub const MOST_CLAIMS: u32 = 1_000;
 
-/// The most kWh of a row, which may be more than a bill is given.
+/// The most kWh of a row, which may be more than a bill may give.
 const MOST_KWH_STORED: i64 = 100_000_000;
 
 /// The highest price in mils.

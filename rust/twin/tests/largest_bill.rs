@@ -19,7 +19,7 @@ const TOO_MANY: [u32; 7] = [
     u32::MAX,
 ];
 
-/// kWh of stored rows that no bill is given.
+/// kWh of stored rows that no bill may give.
 const STORED: [u32; 3] = [40_000_001, 99_999_999, 100_000_000];
 
 /// A ledger with a flexible contract 0 of electricity.

@@ -1,6 +1,9 @@
 //! Bills with an ETII share and a QHS share (document 02, paper 1): number 14, amounts, calls on
 //! such bills, and the rows that a well-formed ledger has of them.
 
+mod april;
+
+use april::april;
 use twin::{BillNumbers, LEDGER_LENGTH};
 
 /// The byte at which the first row begins.
@@ -8,18 +11,12 @@ const FIRST_ROW: usize = 584;
 
 const BOOK: [u32; 1_740] = [0; 1_740];
 
-/// A bill of 1,000 kWh for April 2023: at baseline 17,800 ticks a kWh, ETII 67,640 and
-/// QHS 319,800.
-fn april(etii_share: u32, qhs_share: u32) -> BillNumbers {
+/// 1,000 kWh for April with two shares.
+fn shared(etii_share: u32, qhs_share: u32) -> BillNumbers {
     BillNumbers {
-        contract: 0,
-        first: 486,
-        last: 515,
-        kwh: 1_000,
-        supply: 67_030,
-        wap: 31_980,
         etii_share,
         qhs_share,
+        ..april(1_000)
     }
 }
 
@@ -41,8 +38,8 @@ fn billed(numbers: BillNumbers) -> [u8; LEDGER_LENGTH] {
 #[test]
 fn shares_up_to_kwh_are_taken() {
     for (etii_share, qhs_share) in [(0, 0), (1_000, 0), (0, 1_000), (400, 600), (1, 998)] {
-        let ledger = billed(april(etii_share, qhs_share));
-        let answer = twin::rebill(&mut ledger.clone(), &BOOK, april(etii_share, qhs_share));
+        let ledger = billed(shared(etii_share, qhs_share));
+        let answer = twin::rebill(&mut ledger.clone(), &BOOK, shared(etii_share, qhs_share));
         assert_eq!(answer, Ok([31_980, 17_800, 0]), "{etii_share}, {qhs_share}");
     }
 }
@@ -60,12 +57,12 @@ fn shares_above_kwh_are_number_14() {
         (u32::MAX, 1),
         (u32::MAX, u32::MAX),
     ] {
-        let numbers = april(etii_share, qhs_share);
+        let numbers = shared(etii_share, qhs_share);
         let mut ledger = opened(2, 0);
         let before = ledger;
         assert_eq!(twin::bill(&mut ledger, &BOOK, numbers), Err(14));
         assert_eq!(ledger, before, "{etii_share}, {qhs_share}");
-        let before = billed(april(400, 350));
+        let before = billed(shared(400, 350));
         ledger = before;
         assert_eq!(twin::rebill(&mut ledger, &BOOK, numbers), Err(14));
         assert_eq!(ledger, before, "{etii_share}, {qhs_share}");
@@ -75,8 +72,8 @@ fn shares_above_kwh_are_number_14() {
 /// 8 comes before 14, and 14 before 9, 10 and 11.
 #[test]
 fn number_14_in_checking_order() {
-    let exceeding = april(1_000, 1);
-    let mut ledger = billed(april(0, 0));
+    let exceeding = shared(1_000, 1);
+    let mut ledger = billed(shared(0, 0));
     let large = BillNumbers {
         kwh: 40_000_001,
         etii_share: u32::MAX,
@@ -110,7 +107,7 @@ fn each_share_has_the_rate_of_its_class() {
         for class in [0, 1] {
             let mut ledger = opened(2, 0);
             twin::cert(&mut ledger, 0, class, 486 * class).expect("a certificate");
-            let answer = twin::bill(&mut ledger, &BOOK, april(etii_share, qhs_share));
+            let answer = twin::bill(&mut ledger, &BOOK, shared(etii_share, qhs_share));
             assert_eq!(answer, Ok([31_980, 17_800, amount]), "class {class}");
         }
     }
@@ -136,7 +133,7 @@ fn a_qhs_share_on_either_side_of_day_792() {
             kwh: 1,
             supply: 50_000,
             wap: if kind == 2 { 40_000 } else { 0 },
-            ..april(0, 1)
+            ..shared(0, 1)
         };
         let mut ledger = opened(kind, entry_day);
         let answer = twin::bill(&mut ledger, &[40_000; 1_740], numbers);
@@ -146,12 +143,12 @@ fn a_qhs_share_on_either_side_of_day_792() {
 
 #[test]
 fn calls_on_a_bill_with_shares() {
-    let mut ledger = billed(april(400, 350));
+    let mut ledger = billed(shared(400, 350));
     let ledger = &mut ledger[..];
     let may = BillNumbers {
         first: 516,
         last: 546,
-        ..april(0, 0)
+        ..shared(0, 0)
     };
     twin::bill(ledger, &BOOK, may).expect("a bill");
     assert_eq!(twin::claim(ledger), Ok([16_123, 6_000, 0]));
@@ -159,9 +156,9 @@ fn calls_on_a_bill_with_shares() {
     assert_eq!(twin::cert(ledger, 0, 1, 486), Ok([49_840_000, 1, 0]));
     assert_eq!(twin::report(ledger, 0), Ok([2, 2_000, 211_076_000]));
     let without = [31_980, 67_640, -75_796_000];
-    assert_eq!(twin::rebill(ledger, &BOOK, april(0, 0)), Ok(without));
+    assert_eq!(twin::rebill(ledger, &BOOK, shared(0, 0)), Ok(without));
     let again = [31_980, 17_800, 75_796_000];
-    assert_eq!(twin::rebill(ledger, &BOOK, april(400, 350)), Ok(again));
+    assert_eq!(twin::rebill(ledger, &BOOK, shared(400, 350)), Ok(again));
     assert_eq!(twin::cancel(ledger, 0, 486), Ok([-143_436_000, 0, 0]));
     assert_eq!(twin::claim(ledger), Ok([-9_359, 0, 0]));
     assert_eq!(twin::total(ledger), Ok([67_640_000, 0, 0]));
@@ -173,7 +170,7 @@ fn without_discount() -> BillNumbers {
         kwh: 1,
         supply: 1,
         wap: 1,
-        ..april(0, 0)
+        ..shared(0, 0)
     }
 }
 
