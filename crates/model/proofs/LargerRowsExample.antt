@@ -13,10 +13,13 @@ use Rattle.model.proofs.Computed.{answers_computed}
 well_formed : WellFormed present_rules stored_larger_rows
 unfolding answers_computed stored_larger_rows state_after bill_ok part_of_due before
 well_formed =
-    formed-with 0 (omega arith) openings _ (omega arith)
-    (record { number = omega arith; is_opened = refl; ranges = refl; part = refl },
-    (record { number = omega arith; is_opened = refl; ranges = refl; part = refl },
-    (record { number = omega arith; is_opened = refl; ranges = refl; part = refl }, tt)))
+    formed-with 0 (omega arith) openings _ (omega arith) (
+      record { number = omega arith; is_opened = refl; ranges = refl; part = refl },
+      (
+        record { number = omega arith; is_opened = refl; ranges = refl; part = refl },
+        (record { number = omega arith; is_opened = refl; ranges = refl; part = refl }, tt),
+      ),
+    )
     ((omega arith, (omega arith, tt)), ((omega arith, tt), (tt, tt)))
 
 pub larger_rows_example : LargerRowsExample
