@@ -53,8 +53,7 @@ pub record DemandThree : Type 0 where
   pub last_claim : EveryAcceptedClaimLeavesRest rules machine
 
 -- demand 3 from a stored ledger on, whose own rows begin the sheet: a well-formed one that balances with the answers to its earlier calls goes
--- on balancing, also where the rules in force would turn such calls down, as bills across months or of more than
--- 40,000,000 kWh
+-- on balancing, also where the rules in force would turn such calls down, as bills across months or of more than 40,000,000 kWh
 abbrev pub StoredLedgersBalance : Type 0
 StoredLedgersBalance = StoredBalanceGoesOn rules machine Formed
 

@@ -6,11 +6,9 @@ use Prim.Native.Nat.{ℕ}
 use lib.ListN.{drop}
 use Rattle.basics.proofs.Tests.{not-no}
 use Rattle.rates.specs.TermsTaken.{crosses_end}
-use Rattle.model.specs.declared.Call.{Call}
 use Rattle.model.specs.declared.Request.{Request}
-use Rattle.model.specs.Calls.{View, Test, ◌if◌, first_of, ◌with◌}
-use Rattle.model.specs.Rules.{refusal}
-use Rattle.model.specs.PresentRules.{bad_book, bad_span, bad_months, bad_amounts, open_tests, tests}
+use Rattle.model.specs.Calls.{View, Test, ◌if◌, first_of}
+use Rattle.model.specs.PresentRules.{bad_book, bad_span, bad_months, bad_amounts, open_tests, request_tests}
 use Rattle.model.specs.AcceptedCalls.{contract_named}
 use Rattle.model.specs.NumberEight.{WrongAmountsGiven, NumberEight}
 use Rattle.model.proofs.Refusals.{fits_any, clear, only-place}
@@ -35,8 +33,7 @@ module _ (v : View) (q : Request) (book : List ℕ) where
       record { span = record { right = record { prices = p 3; number = p 4; opened = not-no _ (p 5); days = p 7 }; months = p 15; inside = p 17 }; amounts = found.1 }
 
 pub number_eight : NumberEight
-unfolding refusal tests
+unfolding request_tests open_tests
 number_eight = of-request 7 WrongAmountsGiven
-    (λ v q book. (given v q book (drop 7 (tests v (Call.Bill q with book))) refl, λ g. rw (g.span.right.prices, g.span.right.number, g.span.right.opened, g.span.right.days, g.span.months, g.span.inside, g.amounts)))
-    (λ v q book. (given v q book (drop 7 (tests v (Call.Rebill q with book))) refl, λ g. rw (g.span.right.prices, g.span.right.number, g.span.right.opened, g.span.right.days, g.span.months, g.span.inside, g.amounts)))
-    (refl, (refl, (refl, (refl, (refl, (refl, (refl, (refl, tt))))))))
+    (λ v q book later none. (given v q book (drop 7 (request_tests v q book) ++ later) none, λ t. rw (t.span.right.prices, t.span.right.number, t.span.right.opened, t.span.right.days, t.span.months, t.span.inside, t.amounts)))
+    (record { not-4 = refl; not-5 = refl; not-6 = refl; not-7 = refl; not-9 = refl; not-10 = refl; not-11 = refl; not-12 = refl; not-13 = refl; not-16 = refl; not-18 = refl })

@@ -5,11 +5,9 @@ use mathlib.Core.List.{List, [], ◌∷◌, ◌++◌}
 use Prim.Native.Nat.{ℕ}
 use lib.ListN.{drop}
 use Rattle.basics.proofs.Tests.{not-no}
-use Rattle.model.specs.declared.Call.{Call}
 use Rattle.model.specs.declared.Request.{Request}
-use Rattle.model.specs.Calls.{View, Test, ◌if◌, first_of, ◌with◌}
-use Rattle.model.specs.Rules.{refusal}
-use Rattle.model.specs.PresentRules.{bad_book, bad_span, bad_months, open_tests, tests}
+use Rattle.model.specs.Calls.{View, Test, ◌if◌, first_of}
+use Rattle.model.specs.PresentRules.{bad_book, bad_span, bad_months, open_tests, request_tests}
 use Rattle.model.specs.AcceptedCalls.{contract_named}
 use Rattle.model.specs.NumberFifteen.{TwoMonthsGiven, NumberFifteen}
 use Rattle.model.proofs.Refusals.{fits_any, clear, only-place}
@@ -28,8 +26,7 @@ module _ (v : View) (q : Request) (book : List ℕ) where
       record { right = record { prices = p 3; number = p 4; opened = not-no _ (p 5); days = p 7 }; months = found.1 }
 
 pub number_fifteen : NumberFifteen
-unfolding refusal tests
+unfolding request_tests open_tests
 number_fifteen = of-request 14 TwoMonthsGiven
-    (λ v q book. (given v q book (drop 5 (tests v (Call.Bill q with book))) refl, λ t. rw (t.right.prices, t.right.number, t.right.opened, t.right.days, t.months)))
-    (λ v q book. (given v q book (drop 5 (tests v (Call.Rebill q with book))) refl, λ t. rw (t.right.prices, t.right.number, t.right.opened, t.right.days, t.months)))
-    (refl, (refl, (refl, (refl, (refl, (refl, (refl, (refl, tt))))))))
+    (λ v q book later none. (given v q book (drop 5 (request_tests v q book) ++ later) none, λ t. rw (t.right.prices, t.right.number, t.right.opened, t.right.days, t.months)))
+    (record { not-4 = refl; not-5 = refl; not-6 = refl; not-7 = refl; not-9 = refl; not-10 = refl; not-11 = refl; not-12 = refl; not-13 = refl; not-16 = refl; not-18 = refl })

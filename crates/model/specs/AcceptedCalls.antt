@@ -15,7 +15,7 @@ use Rattle.model.specs.PresentRules.{bad_book, bad_number, not_amendable, bad_ki
 abbrev pub Accepted : View → Call → (book : List ℕ) → Type 0
 Accepted v c book = refusal present_rules v (c with book) ≡ 0
 
--- a bill or rebill with that said of its request; no other call is one
+-- the call is a bill or rebill of whose request that is so
 abbrev pub OfRequest : (View → Request → (book : List ℕ) → Type 0) → View → CallWithBook → Type 0
 OfRequest P v (Call.Open c fuel kind fix entry with book) = ⊥
 OfRequest P v (Call.Bill q with book) = P v q book
