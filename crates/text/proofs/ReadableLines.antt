@@ -1,5 +1,5 @@
--- What a line that can be read holds: a name of the table and its numbers, so that it is ASCII and long enough. Assumes nothing.
-use Rattle.std.proofs.Common.{◌≡◌, ℕ, ◌*◌, ◌≤◌, Bool, true, false, eqb, List, [], ◌∷◌, ◌++◌, length, Option, Some, None, refl, sym, ap, ◌∙◌, ◌⊎◌, inl, inr, arith, eqb-true, append-nil, length-append}
+-- What a line that can be read holds: a name of the table and its numbers, so that it is ASCII, long enough and not too long. Assumes nothing.
+use Rattle.std.proofs.Common.{◌≡◌, ℕ, ◌*◌, ◌<◌, ◌≤◌, Bool, true, false, eqb, List, [], ◌∷◌, ◌++◌, length, Option, Some, None, refl, sym, ap, ◌∙◌, ◌⊎◌, inl, inr, arith, eqb-true, append-nil, length-append}
 use Rattle.std.specs.List.{join_with_byte}
 use Rattle.std.specs.Str.{IsAscii, IsUtf8}
 use Rattle.std.proofs.lemmas.Bool.{eqb-false}
@@ -9,7 +9,7 @@ use Rattle.std.proofs.lemmas.Str.Ascii.{IsAscii-nil, IsAscii-cons}
 use Rattle.text.specs.Bytes.{space}
 use Rattle.text.specs.Pieces.{pieces}
 use Rattle.text.specs.Numbers.{number_of, numbers_of, followed_by}
-use Rattle.text.specs.Commands.{Form, forms, form_named, no_command, command_with, command_by, command_of_words, command_of, shortest_line}
+use Rattle.text.specs.Commands.{Form, forms, form_named, no_command, command_with, command_by, command_of_words, command_of, shortest_line, longest_readable}
 use Rattle.text.proofs.WordNumbers.{number-word, number-IsAscii}
 use Rattle.text.proofs.Commands.{wrong-count, KnownForm, known-form}
 
@@ -61,10 +61,11 @@ line-words : (s w : List ℕ) (ws : List (List ℕ)) → pieces space s ≡ w �
 unfolding pieces
 line-words s w ws e = sym (join_with_byte-slice_split space s) ∙ ap (join_with_byte space) e ∙ joined w ws
 
--- numbers are ASCII, and each has a digit
+-- numbers are ASCII, and each has a digit, and ten at most
 record Numbers (ws : List (List ℕ)) (ns : List ℕ) : Type 0 where
   ascii : IsAscii (with_spaces ws)
   long : 2 * length ns ≤ length (with_spaces ws)
+  short : length (with_spaces ws) ≤ 11 * length ns
 
 numbers-step : (w : List ℕ) (ws : List (List ℕ)) (x : Option ℕ) → number_of w ≡ x → (y : Option (List ℕ)) → ((ms : List ℕ) → y ≡ Some ms → Numbers ws ms)
     → (ns : List ℕ) → followed_by x y ≡ Some ns → Numbers (w ∷ ws) ns
@@ -78,11 +79,12 @@ numbers-step w ws (Some n) q (Some ms) ih ns e =
     record {
       ascii = IsAscii-cons space (w ++ with_spaces ws) (omega arith) (IsAscii-append w (with_spaces ws) (number-IsAscii d) more.ascii);
       long = omega (arith, ap length k, d.some, more.long, length-append w (with_spaces ws));
+      short = omega (arith, ap length k, d.few, more.short, length-append w (with_spaces ws));
     }
 
 numbers-read : (ws : List (List ℕ)) (ns : List ℕ) → numbers_of ws ≡ Some ns → Numbers ws ns
 unfolding numbers_of with_spaces
-numbers-read [] ns e = let q : [] ≡ ns = cc in record { ascii = IsAscii-nil; long = omega (arith, ap length q) }
+numbers-read [] ns e = let q : [] ≡ ns = cc in record { ascii = IsAscii-nil; long = omega (arith, ap length q); short = omega arith }
 numbers-read (w ∷ ws) ns e = numbers-step w ws (number_of w) refl (numbers_of ws) (numbers-read ws) ns e
 
 module _ {s : List ℕ} (r : Readable s) where
@@ -97,12 +99,21 @@ module _ {s : List ℕ} (r : Readable s) where
       rw (line-words s r.name r.words r.split)
       (omega (arith, known.long, counted.long, r.count, length-append r.name (with_spaces r.words)))
 
+  readable-short : length s ≤ longest_readable
+  readable-short =
+      rw (line-words s r.name r.words r.split)
+      (omega (arith, known.short, counted.short, r.count, length-append r.name (with_spaces r.words)))
+
   readable-IsAscii : IsAscii s
   readable-IsAscii = rw (line-words s r.name r.words r.split) (IsAscii-append r.name (with_spaces r.words) known.ascii counted.ascii)
 
 -- a line that can be read is long enough, and is text
 pub no-shorter-line : (s : List ℕ) → (command_of s ≡ no_command) ⊎ (shortest_line ≤ length s)
 no-shorter-line s = elim (readable s) [ inl e ↦ inl e | inr r ↦ inr (readable-long r) ]
+
+-- a longer line than any that can be read
+pub too-long : (s : List ℕ) → longest_readable < length s → no_command ≡ command_of s
+too-long s n = elim (readable s) [ inl e ↦ sym e | inr r ↦ absurd (omega (arith, readable-short r)) ]
 
 pub not-text : (s : List ℕ) → ¬ (IsUtf8 s) → no_command ≡ command_of s
 not-text s n = elim (readable s) [ inl e ↦ sym e | inr r ↦ absurd (n (IsUtf8-from_ascii s (readable-IsAscii r))) ]

@@ -30,6 +30,7 @@ decimal_value-all v (b ∷ bs) = go (is_ascii_digit b) (all_ascii_digits bs) _ (
 -- ---- what a word that is a number holds
 pub record IsNumber (w : List ℕ) (n : ℕ) : Type 0 where
   pub some : 0 < length w
+  pub few : length w ≤ 10
   pub no_zero : has_leading_zero w ≡ false
   pub digits : all_ascii_digits w ≡ true
   pub value : n ≡ value_after 0 w
@@ -37,7 +38,7 @@ pub record IsNumber (w : List ℕ) (n : ℕ) : Type 0 where
 
 pub number-word : (w : List ℕ) (n : ℕ) → number_of w ≡ Some n → IsNumber w n
 unfolding number_of
-number-word w n h = by_length (eqb (length w) 0) refl (ltb 10 (length w)) (has_leading_zero w) refl (rw (decimal_value-all 0 w) at h)
+number-word w n h = by_length (eqb (length w) 0) refl (ltb 10 (length w)) refl (has_leading_zero w) refl (rw (decimal_value-all 0 w) at h)
   where
     by_size : (t : Bool) → ltb 4294967295 (value_after 0 w) ≡ t → cond t None (Some (value_after 0 w)) ≡ Some n → (n ≡ value_after 0 w) × (n ≤ 4294967295)
     by_size true e q = cc
@@ -47,15 +48,16 @@ number-word w n h = by_length (eqb (length w) 0) refl (ltb 10 (length w)) (has_l
     by_digits true e q = let k = by_size (ltb 4294967295 (value_after 0 w)) refl q in (e, k.0, k.1)
     by_digits false e q = cc
 
-    by_length : (t : Bool) → eqb (length w) 0 ≡ t → (u v : Bool) → has_leading_zero w ≡ v
+    by_length : (t : Bool) → eqb (length w) 0 ≡ t → (u : Bool) → ltb 10 (length w) ≡ u → (v : Bool) → has_leading_zero w ≡ v
         → cond t None (cond u None (cond v None (as_number (cond (all_ascii_digits w) (Some (value_after 0 w)) None)))) ≡ Some n → IsNumber w n
-    by_length true e u v z q = cc
-    by_length false e true v z q = cc
-    by_length false e false true z q = cc
-    by_length false e false false z q =
+    by_length true e u m v z q = cc
+    by_length false e true m v z q = cc
+    by_length false e false m true z q = cc
+    by_length false e false m false z q =
         let k = by_digits (all_ascii_digits w) refl q in
         let l = eqb-false (length w) 0 e in
-        record { some = omega arith; no_zero = z; digits = k.0; value = k.1; small = k.2 }
+        let few = ltb-false 10 (length w) m in
+      record { some = omega arith; few = omega arith; no_zero = z; digits = k.0; value = k.1; small = k.2 }
 
 pub number-IsAscii : {w : List ℕ} {n : ℕ} → IsNumber w n → IsAscii w
 number-IsAscii {w} k = IsAscii-from_digits w (values.to w k.digits)

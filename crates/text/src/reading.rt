@@ -26,6 +26,9 @@ const MOST_NUMBERS: usize = 8;
 // No line that can be read is shorter.
 pub const SHORTEST_LINE: usize = 5;
 
+// No line that can be read is longer: the longest name, and as many numbers of ten digits, each after a space.
+const LONGEST_READABLE: usize = 6 + MOST_NUMBERS * 11;
+
 // Whether a word has more than one byte, of which the first is 0.
 fn has_leading_zero(word: &str) -> bool
     ensures { result ≡ has_leading_zero word.now }
@@ -111,6 +114,10 @@ fn command_by(name: &str, numbers: &[u32]) -> Result<Command, Refusal>
 pub fn read_command(line: &[u8]) -> Result<Command, Refusal>
     ensures { by_number result ≡ command_of line.now }
 {
+    // So that a line of any length costs no more than the longest that can be read.
+    if LONGEST_READABLE < line.len() {
+        return Err(Refusal::Unreadable);
+    }
     let Ok(line) = str::from_utf8(line) else {
         return Err(Refusal::Unreadable);
     };

@@ -1,9 +1,12 @@
 -- `read_command` meets its contract: the words are the name and the numbers, in a line that is text, and no other line can be read.
 use Rattle.std.proofs.Common.{◌≡◌, ◌∷◌, ◌++◌, [], rules, sym, ◌∙◌}
 use Rattle.std.proofs.lemmas.List.{length_push}
-use Rattle.text.proofs.ReadableLines.{not-text}
+use Rattle.text.proofs.ReadableLines.{not-text, too-long}
 use Rattle.text.proofs.Words.{named, none-gathered, unread, more-gathered, too_many_numbers, ended}
 use Rattle.text.proofs.reading.read_command.Goals as goal
+
+pub returns-then-line-gt-LONGEST_READABLE : goal.returns-then-line-gt-LONGEST_READABLE
+returns-then-line-gt-LONGEST_READABLE c = too-long c.args.line.now (search rules)
 
 pub returns-in_default : goal.returns-in_default
 returns-in_default c = not-text c.args.line.now (search rules)
