@@ -8,7 +8,7 @@ ghost use Rattle.std.specs.Prelude.{◌≡◌, [], ◌≤◌, length, take, drop
 ghost use Rattle.model.specs.declared.Call.{Call};
 ghost use Rattle.model.specs.Calls.{◌with◌, reply_of};
 ghost use Rattle.layout.specs.Present.{machine};
-ghost use Rattle.calendar.specs.Answers.{day_of_date, date_of_day};
+ghost use Rattle.calendar.specs.Answers.{day_answer, date_answer};
 ghost use Rattle.contract_calls.specs.Start.{start_answer, start_bytes};
 ghost use Rattle.calls.specs.Replies.{reply_of_day, reply_of_date};
 ghost use Rattle.session.specs.Transcript.{transcript, most_output};
@@ -183,16 +183,16 @@ pub fn amend(
 
 // day (year, month, day).
 pub fn day(year: u32, month: u32, day: u32, answer: &mut [i64; ANSWER_NUMBERS]) -> u32
-    ensures value { result ≡ (reply_of_day (day_of_date year month day)).refused }
-    ensures answer_after { answer.new ≡ (reply_of_day (day_of_date year month day)).numbers }
+    ensures value { result ≡ (reply_of_day (day_answer year month day)).refused }
+    ensures answer_after { answer.new ≡ (reply_of_day (day_answer year month day)).numbers }
 {
     ebds_c::ebds_day(year, month, day, answer)
 }
 
 // date (day number).
 pub fn date(day: u32, answer: &mut [i64; ANSWER_NUMBERS]) -> u32
-    ensures value { result ≡ (reply_of_date (date_of_day day)).refused }
-    ensures answer_after { answer.new ≡ (reply_of_date (date_of_day day)).numbers }
+    ensures value { result ≡ (reply_of_date (date_answer day)).refused }
+    ensures answer_after { answer.new ≡ (reply_of_date (date_answer day)).numbers }
 {
     ebds_c::ebds_date(day, answer)
 }

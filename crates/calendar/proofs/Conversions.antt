@@ -1,8 +1,8 @@
--- The laws of `date`, which answers the date at a place of the table, and of `day`, which answers the first place of a date.
-use Rattle.std.proofs.Common.{◌≡◌, sym, ap, ◌∙◌, ℕ, ◌<◌, ◌≤◌, Bool, true, false, List, map, length, Option, None, Some, option_map, Bor, arith}
+-- The laws of the date at a place of the table, and of the first place of a date.
+use Rattle.std.proofs.Common.{◌≡◌, refl, sym, ap, ◌∙◌, ℕ, ◌<◌, ◌≤◌, Bool, true, false, List, map, length, Option, None, Some, option_map, Bor, arith}
 use Rattle.std.specs.Bool.{Decides}
 use Rattle.std.specs.List.{slice_get, position_or_len}
-use Rattle.std.specs.Option.{option_eq, MatchOption, IsSomeAnd}
+use Rattle.std.specs.Option.{option_eq, ok_or, MatchOption, IsSomeAnd}
 use Rattle.std.specs.Slice.{IsItemAt}
 use Rattle.std.proofs.lemmas.Bool.{lt-ltb, le-ltb}
 use Rattle.std.proofs.lemmas.Bool.Decides.{not_from_Decides}
@@ -10,10 +10,12 @@ use Rattle.std.proofs.lemmas.Grind.{common_steps}
 use Rattle.std.proofs.lemmas.List.Sums.{position_or_len_is}
 use Rattle.std.proofs.lemmas.Option.{slice_get-map, slice_get_past, slice_get-get_or, slice_get_within, get_or_from_slice_get, gets}
 use Rattle.limits.specs.Limits.{day_count}
+use Rattle.refusals.specs.declared.Refusal.{Refusal}
+use Rattle.refusals.specs.Numbers.{by_number}
 use Rattle.calendar.specs.declared.CalendarDate.{CalendarDate}
 use Rattle.calendar.specs.Calendar.{date_from, same_date}
 use Rattle.calendar.specs.Days.{dates, date_of, no_date, unpacked}
-use Rattle.calendar.specs.Answers.{day_of_date, date_of_day}
+use Rattle.calendar.specs.Answers.{day_of_date, date_of_day, in_table}
 use Rattle.calendar.proofs.SameDate.{same_decides, other-differs}
 use Rattle.calendar.proofs.Days.{day-count}
 
@@ -48,7 +50,7 @@ module _ (Read : Bor ℕ → CalendarDate → Type 0) (stands : (entry : Bor ℕ
   read-entry table place (Some e) None at read = absurd read
   read-entry table place (Some e) (Some d) at read = let same = stands e d read in grind (arith, common_steps, gets)
 
-  -- so it is what `date` answers, where the table's entries stand for the dates
+  -- so it is what the table has there, where the table's entries stand for the dates
   pub read-date :
       (table : List ℕ) → map unpacked table ≡ dates
       → (day : ℕ) (entry : Option (Bor ℕ)) (date : Option CalendarDate)
@@ -62,6 +64,11 @@ module _ (Read : Bor ℕ → CalendarDate → Type 0) (stands : (entry : Bor ℕ
       ∙ ap (λ (entries : List CalendarDate). slice_get entries day) stand
 
 -- ---- day
+
+-- what the table hasn't is turned down by number 7
+pub or-refused : {A : Type 0} (x : Option A) → by_number (ok_or x Refusal.BadDay) ≡ in_table x
+or-refused None = refl
+or-refused (Some a) = refl
 
 -- whether a day has a date, as the code tests it
 abbrev pub has_date : CalendarDate → ℕ → Bool
@@ -102,7 +109,7 @@ module _ (year month day : ℕ) where
   day-nowhere none =
       rw (first-place day_count (omega arith) none (λ inside. absurd (omega arith)), le-ltb day_count (length dates) (omega (arith, day-count)))
 
-  -- what a search through the days found is what `day` answers
+  -- what a search through the days found is the first place of the date
   pub found-day :
       (number : Option ℕ)
       → MatchOption number

@@ -1,12 +1,12 @@
 -- `day` and `date` are inverse to each other, and each turns down exactly what isn't in the table. Assumes nothing.
-use Rattle.std.proofs.Common.{◌≡◌, refl, sym, ap, ◌∙◌, ℕ, suc, ◌<◌, Bool, true, Some, ltb, arith}
+use Rattle.std.proofs.Common.{◌≡◌, refl, sym, ap, ◌∙◌, ℕ, suc, ◌<◌, Bool, true, Option, None, Some, Ok, Err, ltb, arith}
 use Rattle.std.proofs.lemmas.Bool.{ltb-true}
 use Rattle.std.proofs.lemmas.List.Quantifiers.{position-Some}
 use Rattle.limits.specs.Limits.{day_count}
 use Rattle.calendar.specs.declared.CalendarDate.{CalendarDate}
 use Rattle.calendar.specs.Calendar.{date_from, same_date}
 use Rattle.calendar.specs.Days.{dates, date_of, no_date, packed}
-use Rattle.calendar.specs.Answers.{day_of_date}
+use Rattle.calendar.specs.Answers.{day_of_date, in_table}
 use Rattle.calendar.specs.TableOfDates.{DayAndDateInverse}
 use Rattle.calendar.proofs.SameDate.{same_decides}
 use Rattle.calendar.proofs.Conversions.{date-inside, date-late, date-answered, day-first, day-nowhere}
@@ -53,16 +53,24 @@ module _ (year month day : ℕ) where
 
 -- ---- both
 
+-- an answer of the table is what the table has, and a refusal that it has nothing
+had : {A : Type 0} (x : Option A) (a : A) → in_table x ≡ Ok a → x ≡ Some a
+had None a is = cc
+had (Some b) a is = cc
+
+had-none : {A : Type 0} (x : Option A) (n : ℕ) → in_table x ≡ Err n → x ≡ None
+had-none None n is = refl
+had-none (Some b) n is = cc
+
 pub day_and_date_inverse : DayAndDateInverse
 day_and_date_inverse = record {
   inverse = λ year month day n. (
-    (λ is. let found = day-has-date year month day n is in date-inside n found.0 ∙ ap Some found.1),
-    (λ is. let has = date-answered n (date_from year month day) is in date-has-day year month day n has.0 has.1),
+    (λ is. let found = day-has-date year month day n (had _ n is) in ap in_table (date-inside n found.0 ∙ ap Some found.1)),
+    (λ is. let has = date-answered n (date_from year month day) (had _ _ is) in ap in_table (date-has-day year month day n has.0 has.1)),
   );
   day_refused = λ year month day. (
-    (λ none n inside same. let is = date-has-day year month day n inside same in cc),
-    day-nowhere year month day,
+    (λ refused n inside same. let none = had-none _ 7 refused in let is = date-has-day year month day n inside same in cc),
+    (λ none. ap in_table (day-nowhere year month day none)),
   );
-  date_refused = λ n. ((λ none inside. let is = date-inside n inside in cc), date-late n);
-  number = (refl, refl);
+  date_refused = λ n. ((λ refused inside. let none = had-none _ 7 refused in let is = date-inside n inside in cc), (λ late. ap in_table (date-late n late)));
 }

@@ -1,10 +1,10 @@
 -- Document 01, "Days": what is established of the table of dates, and of `day` and `date`, which read it. Assumes nothing.
-use Rattle.std.specs.Prelude.{◌≡◌, None, Some, List, [], ◌∷◌, map, ◌↔◌, ℕ, suc, ◌<◌, length, get_or}
+use Rattle.std.specs.Prelude.{◌≡◌, Ok, Err, List, [], ◌∷◌, map, ◌↔◌, ℕ, suc, ◌<◌, length, get_or}
 use Rattle.calendar.specs.declared.CalendarDate.{CalendarDate}
 use Rattle.calendar.specs.declared.dates.TheConstants.{DATES}
 use Rattle.calendar.specs.Calendar.{date_from, next_date}
 use Rattle.calendar.specs.Days.{date_of, unpacked, packed_dates}
-use Rattle.calendar.specs.Answers.{day_of_date, date_of_day, refusal_if_none}
+use Rattle.calendar.specs.Answers.{day_answer, date_answer}
 
 -- the date at an entry of a packed table
 abbrev pub date_at : List ℕ → ℕ → CalendarDate
@@ -27,8 +27,7 @@ pub record TableOfDates : Type 0 where
 -- day and date: each is the inverse of the other, and each turns down, by number 7, exactly what isn't in the table
 pub record DayAndDateInverse : Type 0 where
   pub inverse : (year month day number : ℕ)
-      → (day_of_date year month day ≡ Some number) ↔ (date_of_day number ≡ Some (date_from year month day))
+      → (day_answer year month day ≡ Ok number) ↔ (date_answer number ≡ Ok (date_from year month day))
   pub day_refused : (year month day : ℕ)
-      → (day_of_date year month day ≡ None) ↔ ((number : ℕ) → number < 852 → date_of number ≡ date_from year month day → ⊥)
-  pub date_refused : (number : ℕ) → (date_of_day number ≡ None) ↔ (number < 852 → ⊥)
-  pub number : (refusal_if_none {A = ℕ} None ≡ 7) × (refusal_if_none {A = CalendarDate} None ≡ 7)
+      → (day_answer year month day ≡ Err 7) ↔ ((number : ℕ) → number < 852 → date_of number ≡ date_from year month day → ⊥)
+  pub date_refused : (number : ℕ) → (date_answer number ≡ Err 7) ↔ (number < 852 → ⊥)

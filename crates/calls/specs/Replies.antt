@@ -1,9 +1,9 @@
 -- The answers whose numbers fit 64 bits with a sign, as all answers of the ledger's calls do, the replies of day and date, and what `perform` owes. Assumes nothing.
-use Rattle.std.specs.Prelude.{◌≡◌, List, [], ◌∷◌, ℕ, ◌<◌, ◌^◌, ℤ, Option, Result, IfOk}
+use Rattle.std.specs.Prelude.{◌≡◌, List, [], ◌∷◌, ℕ, ◌<◌, ◌^◌, ℤ, Result, IfOk}
 use Rattle.refusals.specs.declared.Refusal.{Refusal}
-use Rattle.refusals.specs.Numbers.{by_number}
+use Rattle.refusals.specs.Numbers.{by_number, number_in}
 use Rattle.calendar.specs.declared.CalendarDate.{CalendarDate}
-use Rattle.calendar.specs.Answers.{refusal_if_none, values_of_day, values_of_date}
+use Rattle.calendar.specs.Answers.{values_of_day, values_of_date}
 use Rattle.model.specs.declared.Answer.{Answer}
 use Rattle.model.specs.declared.Answer.TheVariants.{Done, Billed, Rebilled, Certified, Cancelled, Claimed, Reported, Totalled}
 use Rattle.model.specs.declared.Reply.{Reply}
@@ -15,11 +15,11 @@ abbrev pub reply_with : ℕ → ℤ → ℤ → ℤ → Reply
 reply_with count x y z = record { refused = 0; count = count; numbers = padded answer_numbers (x ∷ y ∷ z ∷ []) }
 
 -- the replies of day and date
-abbrev pub reply_of_day : Option ℕ → Reply
-reply_of_day a = reply_of_values (refusal_if_none a) (values_of_day a)
+abbrev pub reply_of_day : Result ℕ ℕ → Reply
+reply_of_day a = reply_of_values (number_in a) (values_of_day a)
 
-abbrev pub reply_of_date : Option CalendarDate → Reply
-reply_of_date a = reply_of_values (refusal_if_none a) (values_of_date a)
+abbrev pub reply_of_date : Result CalendarDate ℕ → Reply
+reply_of_date a = reply_of_values (number_in a) (values_of_date a)
 
 -- a natural number that fits 64 bits with a sign
 abbrev pub FitsSigned : ℕ → Type 0

@@ -69,26 +69,26 @@ pub fn reply_of(said: Result<Answer, Refusal>) -> Reply
 }
 
 // The reply of `day`.
-pub fn reply_of_day(said: Option<u32>) -> Reply
-    ensures { result ≡ reply_of_day said }
+pub fn reply_of_day(said: Result<u32, Refusal>) -> Reply
+    ensures { result ≡ reply_of_day (by_number said) }
 {
     match said {
-        Some(day) => reply_with(1, i64::from(day), 0, 0),
-        None => reply_without_numbers(u32::from(Refusal::BadDay)),
+        Ok(day) => reply_with(1, i64::from(day), 0, 0),
+        Err(refusal) => reply_without_numbers(u32::from(refusal)),
     }
 }
 
 // The reply of `date`.
-pub fn reply_of_date(said: Option<CalendarDate>) -> Reply
-    ensures { result ≡ reply_of_date said }
+pub fn reply_of_date(said: Result<CalendarDate, Refusal>) -> Reply
+    ensures { result ≡ reply_of_date (by_number said) }
 {
     match said {
-        Some(date) => reply_with(
+        Ok(date) => reply_with(
             3,
             i64::from(date.year),
             i64::from(date.month),
             i64::from(date.day),
         ),
-        None => reply_without_numbers(u32::from(Refusal::BadDay)),
+        Err(refusal) => reply_without_numbers(u32::from(refusal)),
     }
 }

@@ -7,7 +7,7 @@
 mod answers;
 
 ghost use Rattle.std.specs.Prelude.{◌≡◌, []};
-ghost use Rattle.calendar.specs.Answers.{day_of_date, date_of_day};
+ghost use Rattle.calendar.specs.Answers.{day_answer, date_answer};
 ghost use Rattle.model.specs.declared.Call.{Call};
 ghost use Rattle.model.specs.Calls.{◌with◌, request_of, reply_of};
 ghost use Rattle.contract_calls.specs.Start.{start_answer, start_bytes};
@@ -186,14 +186,14 @@ pub fn ebds_amend(
 
 // day (year, month, day).
 pub fn ebds_day(year: u32, month: u32, day: u32, answer: &mut [i64; ANSWER_NUMBERS]) -> u32
-    ensures { Given (reply_of_day (day_of_date year month day)) result answer.new }
+    ensures { Given (reply_of_day (day_answer year month day)) result answer.new }
 {
     give(reply_of_day(calendar::day(year, month, day)), answer)
 }
 
 // date (day number).
 pub fn ebds_date(day: u32, answer: &mut [i64; ANSWER_NUMBERS]) -> u32
-    ensures { Given (reply_of_date (date_of_day day)) result answer.new }
+    ensures { Given (reply_of_date (date_answer day)) result answer.new }
 {
     give(reply_of_date(calendar::date(day)), answer)
 }

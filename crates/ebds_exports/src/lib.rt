@@ -4,7 +4,7 @@
 #![tactic(auto)]
 
 ghost use Rattle.std.specs.Prelude.{◌≡◌, []};
-ghost use Rattle.calendar.specs.Answers.{day_of_date, date_of_day};
+ghost use Rattle.calendar.specs.Answers.{day_answer, date_answer};
 ghost use Rattle.model.specs.declared.Call.{Call};
 ghost use Rattle.model.specs.Calls.{◌with◌, request_of, reply_of};
 ghost use Rattle.contract_calls.specs.Start.{start_answer, start_bytes};
@@ -179,7 +179,7 @@ pub extern "C" fn ebds_day(
     day: u32,
     answer: &mut [i64; ANSWER_NUMBERS],
 ) -> u32
-    ensures { Given (reply_of_day (day_of_date year month day)) result answer.new }
+    ensures { Given (reply_of_day (day_answer year month day)) result answer.new }
 {
     ebds_c::ebds_day(year, month, day, answer)
 }
@@ -187,7 +187,7 @@ pub extern "C" fn ebds_day(
 // date (day number).
 #[unsafe(no_mangle)]
 pub extern "C" fn ebds_date(day: u32, answer: &mut [i64; ANSWER_NUMBERS]) -> u32
-    ensures { Given (reply_of_date (date_of_day day)) result answer.new }
+    ensures { Given (reply_of_date (date_answer day)) result answer.new }
 {
     ebds_c::ebds_date(day, answer)
 }

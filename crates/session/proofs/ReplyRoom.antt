@@ -12,7 +12,7 @@ use lib.ListN.{length}
 use Rattle.basics.specs.Tests.{every}
 use Rattle.basics.proofs.Tests.{and_left, and_right, lt_yes}
 use Rattle.calendar.specs.declared.CalendarDate.{CalendarDate}
-use Rattle.calendar.specs.Answers.{day_of_date, date_of_day}
+use Rattle.calendar.specs.Answers.{day_of_date, date_of_day, in_table}
 use Rattle.text.specs.declared.reading.Command.{Command}
 use Rattle.text.specs.Commands.{command_of, no_command, shortest_line}
 use Rattle.text.specs.Lines.{line_text, line_room, WroteWithin}
@@ -84,11 +84,11 @@ start-short b territory = go (start_refusal b territory) (first-low ((2 if not (
     go zero h = omega arith
     go (suc n) h = omega arith
 
-day-short : (a : Option ℕ) → Short (reply_of_day a)
+day-short : (a : Option ℕ) → Short (reply_of_day (in_table a))
 day-short None = omega arith
 day-short (Some day) = omega arith
 
-date-short : (a : Option CalendarDate) → Short (reply_of_date a)
+date-short : (a : Option CalendarDate) → Short (reply_of_date (in_table a))
 date-short None = omega arith
 date-short (Some date) = omega arith
 

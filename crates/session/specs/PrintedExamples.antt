@@ -1,5 +1,5 @@
 -- Document 01, "The program and one run": the line printed for each kind of answer, and how a text is cut into lines. Assumes nothing.
-use Rattle.std.specs.Prelude.{◌≡◌, List, [], ◌∷◌, map, negsuc, Ok, Err, Some}
+use Rattle.std.specs.Prelude.{◌≡◌, List, [], ◌∷◌, map, negsuc, Ok, Err}
 use Prim.Native.String.{String}
 use Rattle.calendar.specs.Calendar.{date_from}
 use Rattle.text.specs.declared.reading.Command.{Command}
@@ -35,8 +35,8 @@ printed_examples =
     ∷ (reply_of (Ok (Reported 1 2 3)) prints "ok 1 2 3\n")
     ∷ (reply_of (Ok (Totalled 1 (negsuc 1))) prints "ok 1 -2\n")
     ∷ (reply_of (Err 13) prints "refused 13\n")
-    ∷ (reply_of_day (Some 820) prints "ok 820\n")
-    ∷ (reply_of_date (Some (date_from 2024 2 29)) prints "ok 2024 2 29\n")
+    ∷ (reply_of_day (Ok 820) prints "ok 820\n")
+    ∷ (reply_of_date (Ok (date_from 2024 2 29)) prints "ok 2024 2 29\n")
     ∷ []
 
 pub record LinesPrinted : Type 0 where

@@ -1,7 +1,7 @@
 -- Document 01, "The program and one run": what the program holds, and for each command the line that it prints and what it then holds. Assumes nothing.
 use Rattle.std.specs.Prelude.{Bool, cond, ◌||◌, List, ℕ, leb, ltb, replicate, set, Result, Ok, Err}
 use Rattle.limits.specs.Limits.{highest_price, book_length}
-use Rattle.calendar.specs.Answers.{day_of_date, date_of_day}
+use Rattle.calendar.specs.Answers.{day_answer, date_answer}
 use Rattle.text.specs.declared.reading.Command.{Command}
 use Rattle.model.specs.declared.Reply.{Reply}
 use Rattle.model.specs.Calls.{reply_of, reply_without_numbers, CallWithBook, ◌with◌}
@@ -62,8 +62,8 @@ pricing s index value = record { reply = price_reply index value; next = holding
 unfoldable pub response_to : State → Result Command ℕ → Response
 response_to s (Ok (Command.Start territory)) = starting s territory
 response_to s (Ok (Command.OnLedger c)) = on_ledger s (c with s.book)
-response_to s (Ok (Command.Day year month day)) = saying s (reply_of_day (day_of_date year month day))
-response_to s (Ok (Command.Date day)) = saying s (reply_of_date (date_of_day day))
+response_to s (Ok (Command.Day year month day)) = saying s (reply_of_day (day_answer year month day))
+response_to s (Ok (Command.Date day)) = saying s (reply_of_date (date_answer day))
 response_to s (Ok (Command.Price index value)) = pricing s index value
 response_to s (Err n) = saying s (reply_without_numbers 1)
 
