@@ -57,7 +57,7 @@ number-word w n h = by_length (eqb (length w) 0) refl (ltb 10 (length w)) refl (
         let k = by_digits (all_ascii_digits w) refl q in
         let l = eqb-false (length w) 0 e in
         let few = ltb-false 10 (length w) m in
-      record { some = omega arith; few = omega arith; no_zero = z; digits = k.0; value = k.1; small = k.2 }
+        record { some = omega arith; few = omega arith; no_zero = z; digits = k.0; value = k.1; small = k.2 }
 
 pub number-IsAscii : {w : List ℕ} {n : ℕ} → IsNumber w n → IsAscii w
 number-IsAscii {w} k = IsAscii-from_digits w (values.to w k.digits)
