@@ -1,4 +1,4 @@
--- The scheme month of a later day is no earlier one; and that of a day is that of the date which `date` answers.
+-- The scheme month of a later day is no earlier one; and that of a day is that of the date at its place of the table.
 use Rattle.std.proofs.Common.{◌≡◌, refl, sym, ap, ◌∙◌, ℕ, ◌+◌, ◌*◌, ◌≤◌, ◌<◌, Option, Some, arith}
 use Rattle.std.specs.Option.{unwrap_or}
 use Rattle.std.proofs.lemmas.Option.{unwrap_or-slice_get}
@@ -21,7 +21,7 @@ pub month-between : (first day last : ℕ) → first ≤ day → day ≤ last �
 month-between first day last h k inside e =
     omega (arith, e, later-month first day h (omega arith), later-month day last k inside)
 
--- ---- the scheme month of what `date` answers
+-- ---- the scheme month of the date at a place of the table
 
 -- it is the date's, and 0 where there is none
 pub of-answer : (day : ℕ) (answer : Option CalendarDate) → answer ≡ date_of_day day → scheme_month_of (unwrap_or answer no_date) ≡ scheme_month day
