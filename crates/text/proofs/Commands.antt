@@ -7,7 +7,7 @@ use Rattle.std.proofs.lemmas.List.Sums.{AllPass-from_list_all}
 use Rattle.std.proofs.lemmas.Slice.Eq.{bytes_eq-Decides}
 use Rattle.std.proofs.lemmas.Str.Ascii.{IsAscii-from_all}
 use Rattle.text.specs.Pieces.{same_text}
-use Rattle.text.specs.Commands.{Takes, Form, forms, form_named, no_command, command_with, most_numbers, shortest_line, longest_readable}
+use Rattle.text.specs.Commands.{Takes, Form, forms, form_named, no_command, command_with, most_numbers, shortest_line}
 
 -- another count of numbers makes no command
 pub wrong-count : (k : ℕ) (make : Takes k) (ns : List ℕ) → (length ns ≡ k → ⊥) → command_with k make ns ≡ no_command
@@ -17,6 +17,11 @@ wrong-count (suc k) make [] h = refl
 wrong-count (suc k) make (n ∷ ns) h = wrong-count k (make n) ns (λ e. h (ap suc e))
 
 -- ---- what the forms of the table have in common
+
+-- no line that can be read is longer: the longest name, and as many numbers of ten digits, each after a space
+abbrev pub longest_readable : ℕ
+longest_readable = 6 + most_numbers * 11
+
 both : (a b : Bool) → (a && b) ≡ true → (a ≡ true) × (b ≡ true)
 both true b h = (refl, h)
 both false b h = cc

@@ -9,9 +9,9 @@ use Rattle.std.proofs.lemmas.Str.Ascii.{IsAscii-nil, IsAscii-cons}
 use Rattle.text.specs.Bytes.{space}
 use Rattle.text.specs.Pieces.{pieces}
 use Rattle.text.specs.Numbers.{number_of, numbers_of, followed_by}
-use Rattle.text.specs.Commands.{Form, forms, form_named, no_command, command_with, command_by, command_of_words, command_of, shortest_line, longest_readable}
+use Rattle.text.specs.Commands.{Form, forms, form_named, no_command, command_with, command_by, command_of_words, command_of, shortest_line}
 use Rattle.text.proofs.WordNumbers.{number-word, number-IsAscii}
-use Rattle.text.proofs.Commands.{wrong-count, KnownForm, known-form}
+use Rattle.text.proofs.Commands.{wrong-count, longest_readable, KnownForm, known-form}
 
 -- a name of the table, and as many numbers as its form takes
 record Readable (s : List ℕ) : Type 0 where

@@ -1,5 +1,5 @@
 -- A line as a command: a call's name and its numbers, single spaces between. Assumes nothing.
-use Rattle.std.specs.Prelude.{cond, List, [], ◌∷◌, ℕ, ◌+◌, ◌*◌, zero, suc, Option, Some, None, Result, Ok, Err}
+use Rattle.std.specs.Prelude.{cond, List, [], ◌∷◌, ℕ, zero, suc, Option, Some, None, Result, Ok, Err}
 use Prim.Native.String.{String}
 use Rattle.model.specs.declared.Call.{Call}
 use Rattle.model.specs.Calls.{request_of}
@@ -47,10 +47,6 @@ most_numbers = 8
 -- no line that can be read is shorter
 abbrev pub shortest_line : ℕ
 shortest_line = 5
-
--- no line that can be read is longer: the longest name, and as many numbers of ten digits, each after a space
-abbrev pub longest_readable : ℕ
-longest_readable = 6 + most_numbers * 11
 
 -- the form that has a name, if one has it
 unfoldable pub form_named : List Form → List ℕ → Option Form
